@@ -1,6 +1,6 @@
 /* The engine that one would write by hand, without a proof and without a record: the blocks are one array, an atomic unit has a mutex, and a command does its
  * part of each unit with that unit's mutex held, in ascending order up to the first part that fails. It answers zk_open, zk_submit and zk_close as include/zalkvorn.h has them,
- * for what bench/c_load.c asks, and zk_identify for clients/nvme-tcp/target.c; nothing is ever pending, and nothing is recorded. It is what zk_submit is measured beside (bench/c_beside, bench/wire), and not for
+ * for what bench/c_load.c asks, and zk_data_length and zk_identify_namespace for clients/nvme-tcp/target.c; nothing is ever pending, and nothing is recorded. It is what zk_submit is measured beside (bench/c_beside, bench/wire), and not for
  * use. */
 #include <pthread.h>
 #include <stdlib.h>
@@ -13,7 +13,8 @@
 #undef zk_close
 #undef zk_submit
 #undef zk_poll
-#undef zk_identify
+#undef zk_data_length
+#undef zk_identify_namespace
 #undef zk_record
 #undef zk_audit
 
@@ -49,11 +50,20 @@ static struct command read_entry(const uint8_t *entry)
 }
 
 /* The bytes of data that a command carries. */
-static size_t carried(const struct engine *of, const struct command *it, const uint8_t *entry)
+static size_t carried(const struct command *it, const uint8_t *entry, uint32_t block_size)
 {
     if (it->opcode == DATASET_MANAGEMENT)
         return (entry[40] + 1u) * RANGE_BYTES;
-    return it->opcode == WRITE || it->opcode == COMPARE ? (size_t)it->blocks * of->ns.block_size : 0;
+    return it->opcode == WRITE || it->opcode == COMPARE ? (size_t)it->blocks * block_size : 0;
+}
+
+size_t zk_data_length(const uint8_t *entries, size_t count, uint32_t block_size)
+{
+    struct command first = read_entry(entries);
+    if (count == 1)
+        return first.opcode == READ ? (size_t)first.blocks * block_size : carried(&first, entries, block_size);
+    struct command second = read_entry(entries + ZK_ENTRY_BYTES);
+    return carried(&first, entries, block_size) + carried(&second, entries + ZK_ENTRY_BYTES, block_size);
 }
 
 static bool is_served(uint8_t opcode)
@@ -246,12 +256,12 @@ int zk_submit(struct zk_port *port, const uint8_t *entries, size_t entries_lengt
     if ((count != 1 && count != 2) || entries_length % ZK_ENTRY_BYTES || completions_length != count * ZK_COMPLETION_BYTES)
         return ZK_BAD_LENGTH;
     struct command first = read_entry(entries), second = first;
-    wanted = carried(of, &first, entries) + (count == 1 && first.opcode == READ ? (size_t)first.blocks * of->ns.block_size : 0);
+    wanted = carried(&first, entries, of->ns.block_size) + (count == 1 && first.opcode == READ ? (size_t)first.blocks * of->ns.block_size : 0);
     if (count == 2) {
         second = read_entry(entries + ZK_ENTRY_BYTES);
         if (first.fuse != FUSED_FIRST || second.fuse != FUSED_SECOND || !is_served(first.opcode) || !is_served(second.opcode))
             return ZK_NO_PAIR;
-        wanted += carried(of, &second, entries + ZK_ENTRY_BYTES);
+        wanted += carried(&second, entries + ZK_ENTRY_BYTES, of->ns.block_size);
     }
     if (data_length != wanted)
         return ZK_BAD_LENGTH;
@@ -277,20 +287,17 @@ uint32_t zk_version(void)
     return ZK_VERSION;
 }
 
-int zk_identify(struct zk_port *port, uint8_t *data, size_t data_length)
+int zk_identify_namespace(const struct zk_namespace *ns, uint8_t *data, size_t data_length)
 {
-    struct engine *of = (struct engine *)(uintptr_t)port->opaque[0];
-    if (!of)
-        return ZK_NOT_OPEN;
     if (data_length != ZK_IDENTIFY_BYTES)
         return ZK_BAD_LENGTH;
     memset(data, 0, data_length);
-    memcpy(data, &of->ns.nsze, 8);
+    memcpy(data, &ns->nsze, 8);
     data[24] = 2;
-    memcpy(data + 34, &of->ns.nawun, 2);
-    memcpy(data + 38, &of->ns.nacwu, 2);
-    memcpy(data + 40, &of->ns.nabsn, 2);
-    memcpy(data + 42, &of->ns.nabo, 2);
+    memcpy(data + 34, &ns->nawun, 2);
+    memcpy(data + 38, &ns->nacwu, 2);
+    memcpy(data + 40, &ns->nabsn, 2);
+    memcpy(data + 42, &ns->nabo, 2);
     return ZK_DONE;
 }
 

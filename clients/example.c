@@ -95,6 +95,7 @@ static int refusals(void)
     struct zk_namespace ns = { 64, BLOCK, 7, 0, 7, 7 }, none = { 0, BLOCK, 0, 0, 0, 0 };
     struct zk_port ports[2] = { ZK_PORT_INIT, ZK_PORT_INIT };
     uint8_t entries[2 * ZK_ENTRY_BYTES], told[2 * ZK_COMPLETION_BYTES], block[BLOCK] = { 0 }, blocks[2 * BLOCK];
+    static uint8_t identity[ZK_IDENTIFY_BYTES], again[ZK_IDENTIFY_BYTES];
     struct zk_port *port = &ports[0];
     entry_of(entries, READ, 0, 1, 0);
     entry_of(entries + ZK_ENTRY_BYTES, READ, 0, 2, 0);
@@ -102,6 +103,10 @@ static int refusals(void)
         fprintf(stderr, "%s: %d, not %d\n", #call, got, (int)(code)); return 1; } } while (0)
     MUST(zk_close(port), ZK_NOT_OPEN);
     MUST(zk_identify(port, block, BLOCK), ZK_NOT_OPEN);
+    MUST(zk_identify_namespace(&none, identity, sizeof identity), ZK_BAD_NAMESPACE);
+    MUST(zk_identify_namespace(&ns, identity, sizeof identity), ZK_DONE);
+    MUST(zk_data_length(entries, 1, ns.block_size) == BLOCK, 1);
+    MUST(zk_data_length(entries, 1, BLOCK + 1) == ZK_NO_LENGTH, 1);
     MUST(zk_submit(port, entries, 64, block, BLOCK, told, 16), ZK_NOT_OPEN);
     MUST(zk_poll(port, block, BLOCK, told, 16), ZK_NOT_OPEN);
     MUST(zk_open(ports, 0, &ns, ZK_NO_LIMIT, true), ZK_BAD_PORTS);
@@ -122,10 +127,10 @@ static int refusals(void)
     entry_of(entries, READ, 0, 1, 64);
     MUST(zk_submit(port, entries, 64, block, BLOCK, told, 16), ZK_DONE);
     MUST(zk_status_code(told), 0x80);
-    static uint8_t identity[ZK_IDENTIFY_BYTES];
-    MUST(zk_identify(port, identity, sizeof identity - 1), ZK_BAD_LENGTH);
-    memset(identity, 0xff, sizeof identity);
-    MUST(zk_identify(port, identity, sizeof identity), ZK_DONE);
+    MUST(zk_identify(port, again, sizeof again - 1), ZK_BAD_LENGTH);
+    memset(again, 0xff, sizeof again);
+    MUST(zk_identify(port, again, sizeof again), ZK_DONE);
+    MUST(memcmp(again, identity, sizeof again), 0);
     MUST(identity[0], 64);
     MUST(identity[24], 2);
     MUST(identity[34] + identity[38] + identity[40] + identity[42], 7 + 7 + 7 + 0);

@@ -567,9 +567,11 @@ static bool try_submit(struct worker *w, struct space *s)
     if (!pair)
         d.called = 0;
     size_t length = !pair && c.opcode == READ ? c.blocks * s->ns.block_size : c.called + d.called;
-    size_t told_by_header = zk_data_length(entries, pair ? 2 : 1, s->ns.block_size);
-    if (told_by_header != length)
-        return wrong(w, "zk_data_length", entries, told_by_header, length);
+    size_t told_by_library = zk_data_length(entries, pair ? 2 : 1, s->ns.block_size);
+    if (told_by_library != length)
+        return wrong(w, "zk_data_length", entries, told_by_library, length);
+    if (zk_data_length(entries, 0, s->ns.block_size) != ZK_NO_LENGTH || zk_data_length(entries, pair ? 2 : 1, s->ns.block_size + 1) != ZK_NO_LENGTH)
+        return wrong(w, "zk_data_length of nothing", entries, 0, 1);
     if (length > ROOM) {
         /* There is no room for as much, so the length is wrong. */
         length = ROOM;
@@ -658,25 +660,32 @@ static bool try_read_now(struct worker *w, struct space *s, bool pending)
     return true;
 }
 
-static bool try_identify(struct worker *w, struct space *s)
+/* Identifies the namespace by the port, or by its numbers where there is none. */
+static bool identify(struct worker *w, struct zk_port *port, const struct zk_namespace *ns, size_t length, int due)
 {
     uint8_t expected[ZK_IDENTIFY_BYTES + 1];
-    size_t length = below(w, 4) ? ZK_IDENTIFY_BYTES : below(w, sizeof expected + 1);
     memset(w->data, 0x33, sizeof expected);
     memcpy(expected, w->data, sizeof expected);
-    unsigned codes = !s->open ? BIT(ZK_NOT_OPEN) : length == ZK_IDENTIFY_BYTES ? BIT(ZK_DONE) : BIT(ZK_BAD_LENGTH);
-    if (!judge_code(w, "identify", NULL, zk_identify(s->port, w->data, length), codes))
+    int code = port ? zk_identify(port, w->data, length) : zk_identify_namespace(ns, w->data, length);
+    if (!judge_code(w, port ? "identify" : "identify_namespace", NULL, code, BIT(due)))
         return false;
-    if (codes == BIT(ZK_DONE)) {
+    if (due == ZK_DONE) {
         memset(expected, 0, ZK_IDENTIFY_BYTES);
-        put_little(expected, 8, s->ns.nsze);
+        put_little(expected, 8, ns->nsze);
         expected[24] = 2;
-        put_little(expected + 34, 2, s->ns.nawun);
-        put_little(expected + 38, 2, s->ns.nacwu);
-        put_little(expected + 40, 2, s->ns.nabsn);
-        put_little(expected + 42, 2, s->ns.nabo);
+        put_little(expected + 34, 2, ns->nawun);
+        put_little(expected + 38, 2, ns->nacwu);
+        put_little(expected + 40, 2, ns->nabsn);
+        put_little(expected + 42, 2, ns->nabo);
     }
     return memcmp(w->data, expected, sizeof expected) == 0 || wrong(w, "identity", NULL, 1, 0);
+}
+
+static bool try_identify(struct worker *w, struct space *s)
+{
+    size_t length = below(w, 4) ? ZK_IDENTIFY_BYTES : below(w, ZK_IDENTIFY_BYTES + 2);
+    int due = length == ZK_IDENTIFY_BYTES ? ZK_DONE : ZK_BAD_LENGTH;
+    return identify(w, s->port, &s->ns, length, s->open ? due : ZK_NOT_OPEN) && identify(w, NULL, &s->ns, length, due);
 }
 
 static bool try_idle_poll(struct worker *w, struct space *s)
@@ -726,6 +735,8 @@ static bool try_opens(struct worker *w)
             : limit > ZK_MOST_CHANGES ? ZK_BAD_LIMIT : ZK_DONE;
         memcpy(before, ports, sizeof ports);
         if (!judge_code(w, "open", NULL, zk_open(ports + first, count, &ns, limit, versions), BIT(due)))
+            return false;
+        if (!identify(w, NULL, &ns, ZK_IDENTIFY_BYTES, is_namespace(&ns) ? ZK_DONE : ZK_BAD_NAMESPACE))
             return false;
         if (due != ZK_DONE && memcmp(ports, before, sizeof ports) != 0)
             return wrong(w, "ports written by a refused open", NULL, (uint64_t)due, ZK_DONE);

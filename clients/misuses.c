@@ -13,7 +13,7 @@
 #include "entries.h"
 
 /* The first port is called, the second holds a unit, and the third finds out that it does. */
-enum { BLOCK = 512, PORTS = 3, ROOM = 8 * BLOCK };
+enum { BLOCK = 512, PORTS = 3, ROOM = 9 * BLOCK };
 
 /* How things stand before the call. */
 enum state {
@@ -35,7 +35,7 @@ enum state {
     RECORDED_STARVED
 };
 
-enum call { OPENS, CLOSES, SUBMITS, POLLS, IDENTIFIES, READS_NOW, RECORDS };
+enum call { OPENS, CLOSES, SUBMITS, POLLS, IDENTIFIES, IDENTIFIES_NAMESPACE, READS_NOW, RECORDS };
 
 struct row {
     int code;
@@ -57,6 +57,7 @@ struct row {
     { code, SUBMITS, state, misuse, entries, data, completions, first, second, USUAL }
 #define POLL_ROW(code, state, misuse, data, completions) { code, POLLS, state, misuse, 0, data, completions, 0, 0, USUAL }
 #define IDENTIFY_ROW(code, state, misuse, data) { code, IDENTIFIES, state, misuse, 0, data, 0, 0, 0, USUAL }
+#define NAMESPACE_ROW(code, state, misuse, data, ...) { code, IDENTIFIES_NAMESPACE, state, misuse, 0, data, 0, 0, 0, { __VA_ARGS__ }, 0 }
 #define READ_NOW_ROW(code, state, misuse, slba, nlb, data) { code, READS_NOW, state, misuse, 0, data, 0, slba, nlb, USUAL }
 #define RECORD_ROW(code, state, misuse, first, ports, room) { code, RECORDS, state, misuse, ports, room, 0, first, 0, USUAL }
 
@@ -128,6 +129,13 @@ static const struct row rows[] = {
     IDENTIFY_ROW(ZK_NOT_OPEN, CLOSED, "identify after close", ZK_IDENTIFY_BYTES),
     IDENTIFY_ROW(ZK_BAD_LENGTH, OPEN, "identify with a byte too few", ZK_IDENTIFY_BYTES - 1),
     IDENTIFY_ROW(ZK_BAD_LENGTH, OPEN, "identify without room", 0),
+    NAMESPACE_ROW(ZK_BAD_NAMESPACE, SHUT, "identify_namespace of NSZE 0", ZK_IDENTIFY_BYTES, 0, BLOCK, 7, 0, 7, 7),
+    NAMESPACE_ROW(ZK_BAD_NAMESPACE, SHUT, "identify_namespace of blocks of 513 bytes", ZK_IDENTIFY_BYTES, 64, 513, 7, 0, 7, 7),
+    NAMESPACE_ROW(ZK_BAD_NAMESPACE, OPEN, "identify_namespace of 4,097 units", ZK_IDENTIFY_BYTES, 8194, BLOCK, 1, 0, 1, 1),
+    NAMESPACE_ROW(ZK_BAD_NAMESPACE, SHUT, "the same with a byte too few", ZK_IDENTIFY_BYTES - 1, 8194, BLOCK, 1, 0, 1, 1),
+    NAMESPACE_ROW(ZK_BAD_LENGTH, SHUT, "identify_namespace with a byte too few", ZK_IDENTIFY_BYTES - 1, 64, BLOCK, 7, 0, 7, 7),
+    NAMESPACE_ROW(ZK_BAD_LENGTH, SHUT, "identify_namespace with a byte too many", ZK_IDENTIFY_BYTES + 1, 64, BLOCK, 7, 0, 7, 7),
+    NAMESPACE_ROW(ZK_BAD_LENGTH, OPEN, "identify_namespace without room", 0, 64, BLOCK, 7, 0, 7, 7),
     READ_NOW_ROW(ZK_NOT_OPEN, SHUT, "read_now of a port that was never opened", 0, 0, BLOCK),
     READ_NOW_ROW(ZK_NOT_OPEN, CLOSED, "read_now after close", 0, 0, BLOCK),
     READ_NOW_ROW(ZK_BUSY, PENDING, "read_now while a command is pending", 0, 0, BLOCK),
@@ -169,6 +177,9 @@ static const struct row rows[] = {
     SUBMIT_ROW(ZK_DONE, OPEN, "a pair of a Write and a Compare", 128, 2 * BLOCK, 32, FIRST(WRITE), SECOND_OF(COMPARE)),
     SUBMIT_ROW(ZK_DONE, OPEN, "Flush", 64, 0, 16, 0x00, 0),
     IDENTIFY_ROW(ZK_DONE, PENDING, "identify while a command is pending", ZK_IDENTIFY_BYTES),
+    NAMESPACE_ROW(ZK_DONE, SHUT, "identify_namespace", ZK_IDENTIFY_BYTES, 64, BLOCK, 7, 0, 7, 7),
+    NAMESPACE_ROW(ZK_DONE, SHUT_STARVED, "identify_namespace without memory", ZK_IDENTIFY_BYTES, 64, BLOCK, 7, 0, 7, 7),
+    NAMESPACE_ROW(ZK_DONE, PENDING, "identify_namespace while a command is pending", ZK_IDENTIFY_BYTES, 65536, 4096, 15, 0, 15, 0),
     READ_NOW_ROW(ZK_DONE, TAKEN, "read_now while the unit is held", 0, 0, BLOCK),
     RECORD_ROW(ZK_DONE, RECORDED, "record", 0, PORTS, ROOM),
 };
@@ -370,6 +381,8 @@ static int call(const struct row *row, struct written *written)
         return zk_poll(ports, written->data, row->data, written->completions, row->completions);
     case IDENTIFIES:
         return zk_identify(ports, written->data, row->data);
+    case IDENTIFIES_NAMESPACE:
+        return zk_identify_namespace(&row->ns, written->data, row->data);
     case READS_NOW:
         return zk_read_now(ports, row->first, (uint16_t)row->second, written->data, row->data, &written->status);
     case RECORDS:
@@ -437,6 +450,7 @@ static const uint8_t no_points[] = { 'N', 'V', 'E', '1', 1, 0, 2, 0, 0, 0, 0, 0,
 static bool nulls_are_answered(void)
 {
     uint8_t entry[ZK_ENTRY_BYTES], block[BLOCK], told[ZK_COMPLETION_BYTES], line[ZK_LINE_BYTES], zeroes[ZK_ENTRY_BYTES];
+    static uint8_t room[ZK_IDENTIFY_BYTES];
     struct zk_status status;
     size_t length = 0;
     entry_of(entry, WRITE, 0, 1, 0, 1);
@@ -461,6 +475,10 @@ static bool nulls_are_answered(void)
         { "poll of an idle port with NULL for its data", ZK_IDLE, zk_poll(port, NULL, 0, told, sizeof told) },
         { "identify of NULL", ZK_NOT_OPEN, zk_identify(NULL, block, BLOCK) },
         { "identify into NULL", ZK_BAD_LENGTH, zk_identify(port, NULL, ZK_IDENTIFY_BYTES) },
+        { "identify_namespace of NULL", ZK_BAD_NAMESPACE, zk_identify_namespace(NULL, room, sizeof room) },
+        { "identify_namespace into NULL", ZK_BAD_LENGTH, zk_identify_namespace(&usual, NULL, sizeof room) },
+        { "data_length of NULL", true, zk_data_length(NULL, 1, BLOCK) == ZK_NO_LENGTH },
+        { "data_length of no entry at NULL", true, zk_data_length(NULL, 0, BLOCK) == ZK_NO_LENGTH },
         { "read_now of NULL", ZK_NOT_OPEN, zk_read_now(NULL, 0, 0, block, BLOCK, &status) },
         { "read_now into NULL", ZK_BAD_LENGTH, zk_read_now(port, 0, 0, NULL, BLOCK, &status) },
         { "read_now with NULL for its status", ZK_BAD_LENGTH, zk_read_now(port, 0, 0, block, BLOCK, NULL) },
@@ -489,6 +507,69 @@ static bool nulls_are_answered(void)
             right = false;
         }
     close_all();
+    return right;
+}
+
+/* Entries of a namespace, and how much data goes with them. */
+struct carried {
+    size_t length;
+    const char *misuse;
+    size_t count;
+    uint32_t block_size;
+    unsigned first, second; /* opcodes with their FUSE bits */
+    uint32_t blocks; /* NLB + 1 of each */
+};
+
+static const struct carried lengths[] = {
+    { ZK_NO_LENGTH, "data of no entry", 0, BLOCK, WRITE, WRITE, 1 },
+    { ZK_NO_LENGTH, "data of three entries", 3, BLOCK, WRITE, WRITE, 1 },
+    { ZK_NO_LENGTH, "data of blocks of 0 bytes", 1, 0, WRITE, 0, 1 },
+    { ZK_NO_LENGTH, "data of blocks of 513 bytes", 1, 513, WRITE, 0, 1 },
+    { ZK_NO_LENGTH, "no data of blocks of 1,024 bytes", 1, 1024, WRITE_ZEROES, 0, 1 },
+    { BLOCK, "data of a Write", 1, BLOCK, WRITE, 0, 1 },
+    { 3 * 4096, "data of a Write of three large blocks", 1, 4096, WRITE, 0, 3 },
+    { 2 * BLOCK, "room of a Read", 1, BLOCK, READ, 0, 2 },
+    { 65536 * BLOCK, "data of the longest Compare", 1, BLOCK, COMPARE, 0, 65536 },
+    { 0, "data of Write Uncorrectable", 1, BLOCK, WRITE_UNCORRECTABLE, 0, 2 },
+    { 0, "data of Write Zeroes", 1, BLOCK, WRITE_ZEROES, 0, 2 },
+    { RANGE_BYTES, "ranges", 1, BLOCK, DATASET_MANAGEMENT, 0, 2 },
+    { 0, "data of an unknown opcode", 1, BLOCK, 0x7f, 0, 2 },
+    { 0, "data of Flush", 1, BLOCK, 0x00, 0, 2 },
+    { 2 * BLOCK, "data of a first by itself", 1, BLOCK, FIRST(WRITE), 0, 2 },
+    { 4 * BLOCK, "data of a pair", 2, BLOCK, FIRST(COMPARE), SECOND_OF(WRITE), 2 },
+    { BLOCK, "data of a Read and a Write", 2, BLOCK, FIRST(READ), SECOND_OF(WRITE), 1 },
+    { BLOCK + RANGE_BYTES, "data of two entries that aren't fused", 2, BLOCK, DATASET_MANAGEMENT, WRITE, 1 },
+    { BLOCK, "data of an entry with an unknown opcode and a Write", 2, BLOCK, FIRST(0x7f), SECOND_OF(WRITE), 1 },
+};
+
+/* The call tells each length without memory, and zk_submit takes it and no other. */
+static bool lengths_are_told(void)
+{
+    static uint8_t data[65536 * BLOCK + 1];
+    bool right = true;
+    for (size_t i = 0; i < sizeof lengths / sizeof *lengths; i++) {
+        const struct carried *row = &lengths[i];
+        uint8_t entries[3 * ZK_ENTRY_BYTES] = { 0 }, told[2 * ZK_COMPLETION_BYTES];
+        entry_of(entries, (uint8_t)row->first, (uint8_t)(row->first >> 8), 1, 0, row->blocks);
+        entry_of(entries + ZK_ENTRY_BYTES, (uint8_t)row->second, (uint8_t)(row->second >> 8), 2, 0, row->blocks);
+        refuses = true;
+        size_t length = zk_data_length(entries, row->count, row->block_size);
+        refuses = false;
+        bool holds = length == row->length;
+        const struct zk_namespace ns = { 64, row->block_size, 7, 0, 7, 7 };
+        if (length != ZK_NO_LENGTH) {
+            size_t bytes = row->count * ZK_ENTRY_BYTES, room = row->count * ZK_COMPLETION_BYTES;
+            holds &= zk_open(ports, 1, &ns, ZK_NO_LIMIT, false) == ZK_DONE;
+            holds &= zk_submit(ports, entries, bytes, data, length + 1, told, room) == ZK_BAD_LENGTH;
+            holds &= length == 0 || zk_submit(ports, entries, bytes, data, length - 1, told, room) == ZK_BAD_LENGTH;
+            int code = zk_submit(ports, entries, bytes, data, length, told, room);
+            holds &= code == ZK_DONE || code == ZK_NO_PAIR;
+            close_all();
+        }
+        if (!holds)
+            fprintf(stderr, "misuses: %s: %zu, and not %zu, or zk_submit takes another\n", row->misuse, length, row->length);
+        right &= holds;
+    }
     return right;
 }
 
@@ -694,6 +775,8 @@ int main(int words, char **word)
         fprintf(stderr, "misuses: NULL\n");
         right = false;
     }
+    if (!lengths_are_told())
+        right = false;
     if (!starved_in_the_midst()) {
         fprintf(stderr, "misuses: a Write to which memory is refused in the midst\n");
         right = false;
@@ -716,6 +799,7 @@ int main(int words, char **word)
             fprintf(stderr, "misuses: no row answers %s\n", codes[i]);
             right = false;
         }
+    count += sizeof lengths / sizeof *lengths;
     if (right)
         printf("%zu calls, each answered as the table says, and no port or buffer written but with ZK_DONE; %zu judged, each with its line\n",
                count, judged);

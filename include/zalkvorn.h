@@ -35,7 +35,7 @@ extern "C" {
 #endif
 
 /* The version of this header. zk_version() gives that of the library; the two must be equal. */
-#define ZK_VERSION 3
+#define ZK_VERSION 4
 
 /* The most ports of a namespace, and the most changes of an atomic unit that a record can have. */
 #define ZK_MOST_PORTS 64
@@ -53,6 +53,9 @@ extern "C" {
 
 /* The bytes of an Identify Namespace data structure. */
 #define ZK_IDENTIFY_BYTES 4096
+
+/* What zk_data_length answers where no length is right. */
+#define ZK_NO_LENGTH SIZE_MAX
 
 /* What a call answers. Only with ZK_DONE and ZK_PENDING was anything done, and only with ZK_DONE is anything written, but for
  * zk_record's length and the line of zk_audit, zk_witness and zk_refute. */
@@ -161,6 +164,15 @@ int zk_close(struct zk_port *port);
 int zk_submit(struct zk_port *port, const uint8_t *entries, size_t entries_length, uint8_t *data, size_t data_length,
               uint8_t *completions, size_t completions_length);
 
+/* How many bytes of data zk_submit takes with `count` entries, 1 or 2, in a namespace of blocks of `block_size` bytes: neither more nor less. A Write or a
+ * Compare carries NLB + 1 blocks, and a Read by itself wants room for as many; a Dataset Management carries 16 bytes for each of its NR + 1 ranges, and any
+ * other opcode nothing. Two entries carry what the first carries and what the second does, in which a Read has nothing. It is the same where the command or the
+ * pair is refused later. A host may send more with a Dataset Management, and Linux does: hand on the first of them.
+ * ZK_NO_LENGTH: there is no namespace of such blocks, or `count` is another number, and zk_submit takes no data of any length.
+ * It takes no memory.
+ * Threads: any thread, any time. It uses no port. */
+size_t zk_data_length(const uint8_t *entries, size_t count, uint32_t block_size);
+
 /* Goes on with the command that is pending in the port. The buffers are as in zk_submit; those of a Read need at
  * least the room of its blocks, and any other command's data is not looked at. A thread that has nothing else to do calls
  * sched_yield() before it polls again: the port that holds the unit may not be running. It isn't promised that a pending
@@ -175,11 +187,21 @@ int zk_poll(struct zk_port *port, uint8_t *data, size_t data_length, uint8_t *co
  * yours to set: NCAP and NUSE (bytes 8 and 16), which are NSZE; bits 2:0 of DLFEAT (byte 33), 001b, since deallocated blocks
  * read as 0; LBADS of LBA format 0 (byte 130), 9 or 12; and where you have them, bit 0 of NMIC (byte 30) for several
  * controllers, and NGUID or EUI64 (bytes 104 and 120). NAWUPF and NABSPF stay 0: nothing outlives a power failure. A NAWUN or
- * NACWU of 0 stands for AWUN or ACWU of the controller there, so report 0 in those. The page never changes: a controller whose
- * admin queue has no port asks once after zk_open, and keeps it. `data` is ZK_IDENTIFY_BYTES long.
+ * NACWU of 0 stands for AWUN or ACWU of the controller there, so report 0 in those. The page never changes. `data` is
+ * ZK_IDENTIFY_BYTES long.
+ * What Linux's host makes of it, by its source: its atomic writes are to outlive a power failure, so it goes by NAWUPF and NABSPF, and not by NAWUN and NABSN;
+ * where NAWUPF is 0 it goes by AWUPF of the controller, and with 0 in that too a single block is atomic. Where its power can't fail without ending the namespace,
+ * set them to NAWUN and NABSN: that is your promise, and not this library's. It does so only where NABO is 0. Of DLFEAT 001b it makes use together with bit 3, which
+ * has it set DEAC in Write Zeroes; set that or not, since zeroes are written either way. By NGUID or EUI64 it names the disk in /dev/disk/by-id, and knows the namespace
+ * on another path or after it comes back: choose bytes that no other namespace has.
  * ZK_DONE. ZK_NOT_OPEN, ZK_BAD_LENGTH: nothing was written.
  * Threads: as zk_submit. */
 int zk_identify(struct zk_port *port, uint8_t *data, size_t data_length);
+
+/* Writes the same bytes, from the numbers with which the namespace is opened: for a controller whose admin queue has no port. It takes no memory.
+ * ZK_DONE. ZK_BAD_NAMESPACE or ZK_BAD_LENGTH, tried in this order: nothing was written.
+ * Threads: any thread, any time. It uses no port. */
+int zk_identify_namespace(const struct zk_namespace *ns, uint8_t *data, size_t data_length);
 
 /* How a Read ended that zk_read_now answers: 0/00 with its blocks, or 2/81 without. */
 struct zk_status {
@@ -266,7 +288,7 @@ int zk_record(struct zk_port *ports, size_t count, uint8_t *bytes, size_t room, 
 
 /* NULL, which the library's own functions don't take, is answered here. A port that is NULL is not open; ports that are NULL are none. A
  * buffer that is NULL has no room: where its length is above 0, or the call has to write to it, the answer is ZK_BAD_LENGTH, and
- * for the line of zk_audit, zk_witness and zk_refute ZK_SHORT_ROOM. A namespace that is NULL has no numbers. */
+ * for the line of zk_audit, zk_witness and zk_refute ZK_SHORT_ROOM. A namespace that is NULL has no numbers, and entries that are NULL are none. */
 static inline int zk_open_or_null(struct zk_port *ports, size_t count, const struct zk_namespace *ns, uint32_t limit, bool versions)
 {
     return !ports ? ZK_BAD_PORTS : !ns ? ZK_BAD_NAMESPACE : zk_open(ports, count, ns, limit, versions);
@@ -288,6 +310,11 @@ static inline int zk_submit_or_null(struct zk_port *port, const uint8_t *entries
     return zk_submit(port, entries, entries_length, data ? data : &none, data_length, completions, completions_length);
 }
 
+static inline size_t zk_data_length_or_null(const uint8_t *entries, size_t count, uint32_t block_size)
+{
+    return !entries ? ZK_NO_LENGTH : zk_data_length(entries, count, block_size);
+}
+
 static inline int zk_poll_or_null(struct zk_port *port, uint8_t *data, size_t data_length, uint8_t *completions,
                                   size_t completions_length)
 {
@@ -302,6 +329,11 @@ static inline int zk_poll_or_null(struct zk_port *port, uint8_t *data, size_t da
 static inline int zk_identify_or_null(struct zk_port *port, uint8_t *data, size_t data_length)
 {
     return !port ? ZK_NOT_OPEN : !data ? ZK_BAD_LENGTH : zk_identify(port, data, data_length);
+}
+
+static inline int zk_identify_namespace_or_null(const struct zk_namespace *ns, uint8_t *data, size_t data_length)
+{
+    return !ns ? ZK_BAD_NAMESPACE : !data ? ZK_BAD_LENGTH : zk_identify_namespace(ns, data, data_length);
 }
 
 static inline int zk_read_now_or_null(struct zk_port *port, uint64_t slba, uint16_t nlb, uint8_t *data, size_t data_length,
@@ -349,28 +381,15 @@ static inline int zk_record_or_null(struct zk_port *ports, size_t count, uint8_t
 #define zk_open zk_open_or_null
 #define zk_close zk_close_or_null
 #define zk_submit zk_submit_or_null
+#define zk_data_length zk_data_length_or_null
 #define zk_poll zk_poll_or_null
 #define zk_identify zk_identify_or_null
+#define zk_identify_namespace zk_identify_namespace_or_null
 #define zk_read_now zk_read_now_or_null
 #define zk_audit zk_audit_or_null
 #define zk_witness zk_witness_or_null
 #define zk_refute zk_refute_or_null
 #define zk_record zk_record_or_null
-
-/* The bytes of data for which zk_submit calls with `count` entries, 1 or 2, in a namespace of blocks of `block_size` bytes: neither more nor less. A host may send
- * more with a Dataset Management, and Linux does: hand on the first of them. Any thread, any time. */
-static inline size_t zk_data_length(const uint8_t *entries, size_t count, uint32_t block_size)
-{
-    size_t length = 0;
-    for (const uint8_t *entry = entries; entry < entries + count * ZK_ENTRY_BYTES; entry += ZK_ENTRY_BYTES) {
-        size_t blocks = (size_t)(entry[48] | entry[49] << 8) + 1;
-        if (entry[0] == 0x01 || entry[0] == 0x05 || (entry[0] == 0x02 && count == 1))
-            length += blocks * block_size;
-        else if (entry[0] == 0x09)
-            length += (entry[40] + (size_t)1) * 16;
-    }
-    return length;
-}
 
 /* The command identifier, the status code type and the status code of a completion queue entry. */
 static inline uint16_t zk_cid(const uint8_t *completion)

@@ -12,7 +12,7 @@ static struct zk_port ports[ZK_MOST_PORTS];
 static bool taken[ZK_MOST_PORTS];
 static uint8_t page[ZK_IDENTIFY_BYTES];
 
-/* What zk_identify leaves: the sizes that a namespace has beside NSZE, that several controllers share it, what a deallocated block reads as, and the format. */
+/* What zk_identify_namespace leaves: the sizes that a namespace has beside NSZE, that several controllers share it, what a deallocated block reads as, and the format. */
 static void complete_page(void)
 {
     memcpy(page + NAMESPACE_NCAP, page + NAMESPACE_NSZE, 8);
@@ -27,7 +27,7 @@ int media_open(const struct zk_namespace *numbers, bool is_recorded)
     space = *numbers;
     int code = zk_open(ports, ZK_MOST_PORTS, &space, is_recorded ? ZK_MOST_CHANGES : ZK_NO_LIMIT, false);
     if (code == ZK_DONE) {
-        code = zk_identify(&ports[0], page, sizeof page);
+        code = zk_identify_namespace(&space, page, sizeof page);
         complete_page();
     }
     return code;

@@ -33,7 +33,7 @@ int media_open(const struct zk_namespace *numbers, bool is_recorded);
 /* The bytes of a block. */
 uint32_t media_block_size(void);
 
-/* The Identify Namespace page, with what zk_identify leaves to a controller. */
+/* The Identify Namespace page, with what zk_identify_namespace leaves to a controller. */
 const uint8_t *media_page(void);
 
 /* Takes a port that no queue has, or gives NULL. One that is given back has no command pending. The caller sees to it that one thread at a time calls these. */

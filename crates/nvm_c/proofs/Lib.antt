@@ -7,3 +7,4 @@ pub mod Places
 pub mod Answered
 pub mod Worked
 pub mod Held
+pub mod BufferLengths

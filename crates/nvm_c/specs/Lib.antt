@@ -5,6 +5,7 @@ pub mod Held
 pub mod Opening
 pub mod Asked
 pub mod Refused
+pub mod Carried
 pub mod Told
 pub mod Submitted
 pub mod Exports

@@ -1,5 +1,5 @@
 //! The job for which C's entries ask.
-ghost use Rattle.std.specs.Prelude.{◌≡◌, ◌⊎◌, ◌++◌, ◌+◌, ◌*◌, ◌<◌, ◌≤◌, ℕ, List, IfOk, IfErr, drop, false, length};
+ghost use Rattle.std.specs.Prelude.{◌≡◌, ◌⊎◌, ◌++◌, ◌+◌, ◌*◌, ◌^◌, ◌<◌, ◌≤◌, ℕ, List, IfOk, IfErr, drop, false, length};
 ghost use Rattle.byteorder.specs.Endian.{little_number};
 ghost use Rattle.std.specs.Bool.{OnTrue};
 ghost use Rattle.nvm_geometry.specs.Namespace.{Namespace};
@@ -126,9 +126,10 @@ fn asked_together(
 }
 
 /// How many bytes of data an entry calls for.
-fn called(size: BlockSize, entry: &[u8]) -> usize
+pub(crate) fn called(size: BlockSize, entry: &[u8]) -> usize
     requires { length entry.now ≡ 64 }
-    ensures { result ≡ called_for size entry.now }
+    ensures value { result ≡ called_for size entry.now }
+    ensures few { result ≤ 2 ^ 28 }
 {
     let fields = entry_fields(entry);
     fields.op.data_length(fields.nlb, fields.nr, size)

@@ -2,9 +2,11 @@
 ghost use Rattle.std.specs.Prelude.{◌≡◌};
 ghost use Rattle.nvm_c.specs.AuditCodes.{audit_number};
 ghost use Rattle.nvm_c.specs.Audited.{IsAudited};
+ghost use Rattle.nvm_record.specs.BlockSize.{IsBlockSize};
+ghost use Rattle.nvm_c.specs.Carried.{IsCarried, no_length};
 ghost use Rattle.nvm_c.specs.Codes.{number_of};
 ghost use Rattle.nvm_c.specs.Exports.{Closes, PollsAt, SubmitsAt};
-ghost use Rattle.nvm_c.specs.Identify.{IdentifiesAt};
+ghost use Rattle.nvm_c.specs.Identify.{IdentifiesAt, IdentifiesNumbers};
 ghost use Rattle.nvm_c.specs.Opening.{Opens, engines_of, numbers_of};
 ghost use Rattle.nvm_c.specs.ReadNow.{ReadsAt};
 ghost use Rattle.nvm_c.specs.declared.audit_code.AuditCode.{AuditCode as AuditAnswer};
@@ -20,9 +22,10 @@ ghost use Rattle.nvm_c.specs.declared.record_code.RecordCode.{RecordCode as Reco
 ghost use Rattle.nvm_c.specs.declared.trace_code.TraceCode.{TraceCode as TraceAnswer};
 
 use crate::auditing::audited;
+use crate::carried::carried;
 use crate::code::Code;
 use crate::handle::Handle;
-use crate::identify::{IDENTIFY_BYTES, identify};
+use crate::identify::{identify_numbers, report};
 use crate::opening::{Numbers, open_ports};
 use crate::reading::ReadStatus;
 use crate::recording::record_ports;
@@ -32,7 +35,7 @@ use nvm_trace::Judging;
 use std::alloc::Global;
 
 /// The version of the header that goes with this library.
-const VERSION: u32 = 3;
+const VERSION: u32 = 4;
 
 /// The version of the header that goes with this library.
 #[unsafe(no_mangle)]
@@ -96,6 +99,16 @@ pub extern "C" fn zk_poll(
     polled(alloc, port, data, completions).number()
 }
 
+/// How many bytes of data `zk_submit` takes with one entry, or with two that are a fused pair, in a namespace whose blocks have so many.
+/// 2^64 - 1 is answered where it takes none of any length: where there is no namespace of such blocks, or another number of entries.
+#[unsafe(no_mangle)]
+pub extern "C" fn zk_data_length(entries: &[[u8; 64]], block_size: u32) -> usize
+    ensures length { IsBlockSize block_size → IsCarried block_size entries.now result }
+    ensures none { ¬ (IsBlockSize block_size) → result ≡ no_length }
+{
+    carried(entries, block_size)
+}
+
 /// Answers a Read of `nlb + 1` blocks without a wait, from what the port keeps.
 #[unsafe(no_mangle)]
 pub extern "C" fn zk_read_now(
@@ -149,11 +162,16 @@ fn identified(alloc: Global, port: &mut Handle, buffer: &mut [u8]) -> Code
     };
     let geometry = engine.space.geometry();
     port.put(engine);
-    if buffer.len() != IDENTIFY_BYTES {
-        return Code::BadLength;
-    }
-    identify(geometry, buffer);
-    Code::Done
+    report(geometry, buffer)
+}
+
+/// Writes the same structure of the namespace that is opened with these numbers, without a port.
+#[unsafe(no_mangle)]
+pub extern "C" fn zk_identify_namespace(namespace: &Numbers, buffer: &mut [u8]) -> i32
+    ensures { (code : Answer) × (result ≡ number_of code)
+        × IdentifiesNumbers code (numbers_of namespace.now) buffer.old buffer.new }
+{
+    identify_numbers(namespace, buffer).number()
 }
 
 /// Audits the record that the bytes are a file of, and writes its line with a byte of 0 after it. Answers 0 where the record is

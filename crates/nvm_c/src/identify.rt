@@ -1,18 +1,42 @@
 //! What a controller reports of a namespace.
 ghost use Rattle.std.specs.Prelude.{◌≡◌};
-ghost use Rattle.nvm_c.specs.Identify.{IsReported};
+ghost use Rattle.nvm_c.specs.Identify.{IdentifiesNumbers, IsReported, Reports};
 ghost use Rattle.nvm_c.specs.Identify as spec;
+ghost use Rattle.nvm_c.specs.Opening.{numbers_of};
 ghost use Rattle.std.specs.Prelude.{length};
 
+use crate::code::Code;
+use crate::opening::{Numbers, geometry_of};
 use crate::telling::overwrite;
 use byteorder::{ByteOrder, LittleEndian};
 use nvm_geometry::Geometry;
 
 /// An Identify Namespace data structure has so many bytes.
-pub(crate) const IDENTIFY_BYTES: usize = 4096;
+const IDENTIFY_BYTES: usize = 4096;
+
+/// Writes the structure of the namespace of these numbers, if there is one.
+pub(crate) fn identify_numbers(numbers: &Numbers, buffer: &mut [u8]) -> Code
+    ensures { IdentifiesNumbers result (numbers_of numbers.now) buffer.old buffer.new }
+{
+    match geometry_of(numbers) {
+        Ok(geometry) => report(geometry, buffer),
+        Err(_) => Code::BadNamespace,
+    }
+}
+
+/// Writes the structure of the namespace, if the buffer has its length.
+pub(crate) fn report(geometry: Geometry, buffer: &mut [u8]) -> Code
+    ensures { Reports result geometry buffer.old buffer.new }
+{
+    if buffer.len() != IDENTIFY_BYTES {
+        return Code::BadLength;
+    }
+    identify(geometry, buffer);
+    Code::Done
+}
 
 /// Writes the structure of the namespace.
-pub(crate) fn identify(geometry: Geometry, buffer: &mut [u8])
+fn identify(geometry: Geometry, buffer: &mut [u8])
     requires { length buffer.old ≡ 4096 }
     ensures { IsReported geometry buffer.old buffer.new }
 {

@@ -9,6 +9,7 @@ mod asking;
 mod at_once;
 mod audit_code;
 mod auditing;
+mod carried;
 mod code;
 mod engine;
 mod exports;

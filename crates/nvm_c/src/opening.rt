@@ -1,6 +1,7 @@
 //! How a namespace is opened: its space, an engine for each port, and a handle for each engine.
 ghost use Rattle.std.specs.Prelude.{◌≡◌, ◌<◌, ◌≤◌, IfErr, IfOk, is_some, length, map, Some};
 ghost use Rattle.std.specs.List.{AllByRecursion, list_any};
+ghost use Rattle.nvm_geometry.specs.Faults.{HasNoFault, IsFirstGeometryFault};
 ghost use Rattle.nvm_space.specs.Spaces.{IsPortCount};
 ghost use Rattle.nvm_c.specs.Engines.{IsSound, state_of};
 ghost use Rattle.nvm_c.specs.Logs.{kept_by};
@@ -12,7 +13,7 @@ use crate::code::Code;
 use crate::engine::Engine;
 use crate::handle::Handle;
 use crate::log::{Log, Numbering};
-use nvm_geometry::Geometry;
+use nvm_geometry::{Geometry, GeometryFault};
 use nvm_record::{NoMemory, Payload};
 use nvm_space::Space;
 use nvm_store::Limit;
@@ -31,6 +32,22 @@ pub struct Numbers {
     pub nacwu: u16,
 }
 
+/// The geometry of these numbers, or the first fault that applies to them.
+pub(crate) fn geometry_of(numbers: &Numbers) -> Result<Geometry, GeometryFault>
+    ensures taken { IfOk result (λ g. g ≡ numbers_of numbers.now) }
+    ensures sound { IfOk result (λ g. HasNoFault g) }
+    ensures refused { IfErr result (IsFirstGeometryFault (numbers_of numbers.now)) }
+{
+    Geometry::new(
+        numbers.nsze,
+        numbers.block_size,
+        numbers.nabsn,
+        numbers.nabo,
+        numbers.nawun,
+        numbers.nacwu,
+    )
+}
+
 /// Opens each handle on a port of a new namespace, or leaves all as they were.
 pub(crate) fn open_ports(
     alloc: Global,
@@ -47,14 +64,7 @@ pub(crate) fn open_ports(
     if ports.len() == 0 || ports.len() > 64 {
         return Code::BadPorts;
     }
-    let Ok(geometry) = Geometry::new(
-        numbers.nsze,
-        numbers.block_size,
-        numbers.nabsn,
-        numbers.nabo,
-        numbers.nawun,
-        numbers.nacwu,
-    ) else {
+    let Ok(geometry) = geometry_of(numbers) else {
         return Code::BadNamespace;
     };
     let limit = match limit_of(limit) {
