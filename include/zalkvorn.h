@@ -168,7 +168,7 @@ int zk_submit(struct zk_port *port, const uint8_t *entries, size_t entries_lengt
  * Compare carries NLB + 1 blocks, and a Read by itself wants room for as many; a Dataset Management carries 16 bytes for each of its NR + 1 ranges, and any
  * other opcode nothing. Two entries carry what the first carries and what the second does, in which a Read has nothing. It is the same where the command or the
  * pair is refused later. A host may send more with a Dataset Management, and Linux does: hand on the first of them.
- * ZK_NO_LENGTH: there is no namespace of such blocks, or `count` is another number, and zk_submit takes no data of any length.
+ * ZK_NO_LENGTH: there is no namespace of such blocks, or `count` is neither 1 nor 2, and zk_submit takes no data of any length.
  * It takes no memory.
  * Threads: any thread, any time. It uses no port. */
 size_t zk_data_length(const uint8_t *entries, size_t count, uint32_t block_size);
@@ -189,11 +189,11 @@ int zk_poll(struct zk_port *port, uint8_t *data, size_t data_length, uint8_t *co
  * controllers, and NGUID or EUI64 (bytes 104 and 120). NAWUPF and NABSPF stay 0: nothing outlives a power failure. A NAWUN or
  * NACWU of 0 stands for AWUN or ACWU of the controller there, so report 0 in those. The page never changes. `data` is
  * ZK_IDENTIFY_BYTES long.
- * What Linux's host makes of it, by its source: its atomic writes are to outlive a power failure, so it goes by NAWUPF and NABSPF, and not by NAWUN and NABSN;
- * where NAWUPF is 0 it goes by AWUPF of the controller, and with 0 in that too a single block is atomic. Where its power can't fail without ending the namespace,
- * set them to NAWUN and NABSN: that is your promise, and not this library's. It does so only where NABO is 0. Of DLFEAT 001b it makes use together with bit 3, which
- * has it set DEAC in Write Zeroes; set that or not, since zeroes are written either way. By NGUID or EUI64 it names the disk in /dev/disk/by-id, and knows the namespace
- * on another path or after it comes back: choose bytes that no other namespace has.
+ * What Linux's host makes of it, by its source: its atomic writes are to outlive a power failure, so it goes by NAWUPF and NABSPF, where NABO is 0, and not by
+ * NAWUN and NABSN; where NAWUPF is 0 it goes by AWUPF of the controller, and with 0 in that too a single block is atomic. A guest that is killed tears nothing, and with
+ * this process all blocks are gone, so where you write nothing back to a disk NAWUN and NABSN can stand there too: that is your promise, and not this library's. Of DLFEAT it
+ * makes use where bit 3 is set beside 001b: then it sets DEAC in Write Zeroes, which changes nothing here. By NGUID or EUI64 it names the disk in /dev/disk/by-id, and
+ * knows it on another path or after a reset: choose bytes that no other namespace has.
  * ZK_DONE. ZK_NOT_OPEN, ZK_BAD_LENGTH: nothing was written.
  * Threads: as zk_submit. */
 int zk_identify(struct zk_port *port, uint8_t *data, size_t data_length);
