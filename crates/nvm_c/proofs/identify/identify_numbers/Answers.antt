@@ -7,6 +7,6 @@ use Rattle.nvm_c.proofs.identify.identify_numbers.Goals as goal
 -- The geometry is the namespace of the numbers.
 pub returns-in-Ok : goal.returns-in-Ok
 returns-in-Ok c = inl (
-    subst HasNoFault c.in-Ok.ensures.taken c.in-Ok.ensures.sound,
-    subst (λ (ns : Namespace). Reports c.report.result ns c.args.buffer.now c.report.new.buffer) c.in-Ok.ensures.taken c.report.ensures,
-  )
+  subst HasNoFault c.in-Ok.ensures.taken c.in-Ok.ensures.sound,
+  subst (λ (ns : Namespace). Reports c.report.result ns c.args.buffer.now c.report.new.buffer) c.in-Ok.ensures.taken c.report.ensures,
+)
