@@ -79,7 +79,7 @@ alone size entry whole =
     record {
       taken = λ buffer is.
           let found = taken_by size entry whole blocks b (no_data size (op_in entry) (little_number 2 (drop 48 entry)) (slice_index entry 40)) buffer is in
-          (found.0, record { spelled = found.1.0; room = found.1.1 });
+          (found.0, record { whole = whole; spelled = found.1.0; room = found.1.1 });
       only = λ buffer c asked. only_by size entry whole blocks b buffer c (asked.spelled, asked.room);
     }
 
@@ -120,6 +120,7 @@ module _ (size : ℕ) (first second : List ℕ) (one : length first ≡ 64) (oth
         (
           d.0,
           record {
+            whole = length-append first second ∙ ap (λ (k : ℕ). k + length second) one ∙ ap (λ (k : ℕ). 64 + k) other;
             first = subst (λ (e : List ℕ). IsSpelling size (e ++ take (called_for size e) buffer) c.0) (sym front_of) c.1;
             second = subst (λ (e : List ℕ). IsSpelling size (e ++ drop (called_for size (take 64 (first ++ second))) buffer) d.0) (sym back_of)
                 (subst (λ (e : List ℕ). IsSpelling size (second ++ drop (called_for size e) buffer) d.0) (sym front_of) d.1);

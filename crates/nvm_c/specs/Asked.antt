@@ -30,11 +30,13 @@ sent_with op buffer = if reads op then [] else buffer
 
 -- An entry by itself asks for the command, with the buffer that it calls for.
 pub record IsAskedAlone (size : ℕ) (entry buffer : List ℕ) (c : Command) : Type 0 where
+  pub whole : length entry ≡ 64
   pub spelled : IsSpelling size (entry ++ sent_with (op_in entry) buffer) c
   pub room : IsTrue (reads (op_in entry)) → length buffer ≡ (little_number 2 (drop 48 entry) + 1) * size
 
 -- Two entries ask for the commands, the data of the first before that of the second.
 pub record IsAskedTogether (size : ℕ) (entries buffer : List ℕ) (c d : Command) : Type 0 where
+  pub whole : length entries ≡ 128
   pub first : IsSpelling size (take 64 entries ++ take (called_for size (take 64 entries)) buffer) c
   pub second : IsSpelling size (drop 64 entries ++ drop (called_for size (take 64 entries)) buffer) d
 

@@ -51,6 +51,7 @@ returns-clause-submits c =
     let asked : IsAsked size (e.port.number + 1) entry buffer job = record {
       by_host = c.requires.host;
       body = record {
+        whole = c.requires.one;
         spelled = subst (λ (bs : List ℕ). IsSpelling size (entry ++ bs) (command_lent fields c.in-Ok.payload)) also (c.plain_fields-fields.ensures.spelled size c.in-Ok.payload plain long);
         room = λ read. c.if-not-fits_buffer.ensures.read (subst (λ (op : Op). IsTrue (reads op)) (sym c.plain_fields-fields.ensures.op) read)
             ∙ (ap (λ (n : ℕ). (fields.nlb + 1) * n) here ∙ ap (λ (n : ℕ). (n + 1) * size) (c.plain_fields-fields.ensures.nlb plain));

@@ -63,6 +63,7 @@ returns-clause-submits c =
     let asked : IsAsked size (e.port.number + 1) entries buffer job = record {
       by_host = c.requires.host;
       body = record {
+        whole = c.requires.two;
         first = subst (λ (bs : List ℕ). IsSpelling size (take 64 entries ++ bs) (command_lent compare a)) (front ∙ ap (λ (n : ℕ). take n buffer) cut)
             (subst (λ (entry : List ℕ). IsSpelling size (entry ++ a) (command_lent compare a)) c.split_at.ensures.front (c.plain_fields-compare.ensures.spelled size a plain.0 long));
         second = subst (λ (bs : List ℕ). IsSpelling size (drop 64 entries ++ bs) (command_lent write b)) (back ∙ ap (λ (n : ℕ). drop n buffer) cut)
