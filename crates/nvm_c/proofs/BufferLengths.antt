@@ -1,4 +1,4 @@
--- How long the buffer is with which entries ask for commands.
+-- How long the buffer is with which entries ask for a job.
 use Rattle.std.proofs.Common.{◌≡◌, ◌∙◌, ◌++◌, ℕ, ◌+◌, ◌*◌, ◌%◌, ◌<◌, ◌≤◌, Bool, true, false, if◌then◌else◌, IsTrue, List, [], ◌∷◌, length, get_or, take, drop, slice_index, ap, sym, subst, refl, arith}
 use Rattle.std.proofs.Math.Seq.{drop-append_seam, take-append_seam}
 use Rattle.std.proofs.lemmas.List.{length-append, length-drop, length-take-le, take-append-drop}
@@ -8,8 +8,10 @@ use Rattle.nvm_record.specs.Op.{carries_ranges, fuse_of}
 use Rattle.nvm_record.specs.declared.command.Command.{Command}
 use Rattle.nvm_record.specs.declared.op.Op.{Op}
 use Rattle.nvm_record.specs.declared.op.Op.TheVariants.{Write, Read, WriteUncorrectable, Compare, WriteZeroes, Dataset, Other}
-use Rattle.nvm_c.specs.Asked.{IsAskedTogether, op_in, reads}
-use Rattle.nvm_c.specs.Carried.{IsCarried, IsCarriedAlone, IsCarriedTogether, carried_alone}
+use Rattle.nvm_plan.specs.declared.job.Body.{Body}
+use Rattle.nvm_plan.specs.declared.job.Body.TheVariants.{Single, Pair}
+use Rattle.nvm_c.specs.Asked.{AskFor, IsAskedTogether, op_in, reads}
+use Rattle.nvm_c.specs.Carried.{IsCarried, IsLengthWith, carried_alone}
 
 -- the command of an entry and this data
 abbrev command : List ℕ → List ℕ → Command
@@ -72,16 +74,22 @@ module _ (size : ℕ) (entry : List ℕ) (whole : length entry ≡ 64) (blocks :
   taken_by true none buffer is = let found = spells size entry whole [] (sym (none refl)) in (found.0, (found.1, λ _. is))
   taken_by false none buffer is = let found = spells size entry whole buffer is in (found.0, (found.1, λ h. cc h))
 
-pub alone : (size : ℕ) (entry : List ℕ) → length entry ≡ 64 → IsCarriedAlone size entry (carried_alone size entry)
-alone size entry whole =
-    let blocks : ℕ = (little_number 2 (drop 48 entry) + 1) * size in
-    let b : Bool = reads (op_in entry) in
-    record {
-      taken = λ buffer is.
-          let found = taken_by size entry whole blocks b (no_data size (op_in entry) (little_number 2 (drop 48 entry)) (slice_index entry 40)) buffer is in
-          (found.0, record { whole = whole; spelled = found.1.0; room = found.1.1 });
-      only = λ buffer c asked. only_by size entry whole blocks b buffer c (asked.spelled, asked.room);
-    }
+module _ (size : ℕ) (entry : List ℕ) (whole : length entry ≡ 64) where
+  only_alone : (buffer : List ℕ) (body : Body) → AskFor size entry buffer body → length buffer ≡ carried_alone size entry
+  only_alone buffer (Single c) asked =
+      only_by size entry whole ((little_number 2 (drop 48 entry) + 1) * size) (reads (op_in entry)) buffer c (asked.spelled, asked.room)
+  only_alone buffer (Pair c d) asked = absurd (omega (arith, whole, asked.whole))
+
+  pub alone : IsLengthWith size entry (carried_alone size entry)
+  alone = record {
+    taken = λ host buffer is.
+        let none = no_data size (op_in entry) (little_number 2 (drop 48 entry)) (slice_index entry 40) in
+        let found = taken_by size entry whole ((little_number 2 (drop 48 entry) + 1) * size) (reads (op_in entry)) none buffer is in (
+          record { host = host; body = Single found.0 },
+          record { by_host = refl; body = record { whole = whole; spelled = found.1.0; room = found.1.1 } },
+        );
+    only = λ host buffer job asked. only_alone buffer job.body asked.body;
+  }
 
 module _ (size : ℕ) (first second : List ℕ) (one : length first ≡ 64) (other : length second ≡ 64) where
   front_of : take 64 (first ++ second) ≡ first
@@ -89,6 +97,9 @@ module _ (size : ℕ) (first second : List ℕ) (one : length first ≡ 64) (oth
 
   back_of : drop 64 (first ++ second) ≡ second
   back_of = ap (λ (n : ℕ). drop n (first ++ second)) (sym one) ∙ drop-append_seam first second
+
+  both : length (first ++ second) ≡ 128
+  both = length-append first second ∙ ap (λ (k : ℕ). k + length second) one ∙ ap (λ (k : ℕ). 64 + k) other
 
   -- The two parts of a buffer are as long as it is.
   parts : (n : ℕ) (buffer : List ℕ) → length (take n buffer) + length (drop n buffer) ≡ length buffer
@@ -120,7 +131,7 @@ module _ (size : ℕ) (first second : List ℕ) (one : length first ≡ 64) (oth
         (
           d.0,
           record {
-            whole = length-append first second ∙ ap (λ (k : ℕ). k + length second) one ∙ ap (λ (k : ℕ). 64 + k) other;
+            whole = both;
             first = subst (λ (e : List ℕ). IsSpelling size (e ++ take (called_for size e) buffer) c.0) (sym front_of) c.1;
             second = subst (λ (e : List ℕ). IsSpelling size (e ++ drop (called_for size (take 64 (first ++ second))) buffer) d.0) (sym back_of)
                 (subst (λ (e : List ℕ). IsSpelling size (second ++ drop (called_for size e) buffer) d.0) (sym front_of) d.1);
@@ -128,22 +139,28 @@ module _ (size : ℕ) (first second : List ℕ) (one : length first ≡ 64) (oth
         ),
       )
 
-pub together : (size : ℕ) (first second : List ℕ) → length first ≡ 64 → length second ≡ 64
-    → IsCarriedTogether size (first ++ second) (called_for size first + called_for size second)
-together size first second one other = record {
-  taken = taken_both size first second one other;
-  only = only_both size first second one other;
-}
+  only_together : (buffer : List ℕ) (body : Body) → AskFor size (first ++ second) buffer body
+      → length buffer ≡ called_for size first + called_for size second
+  only_together buffer (Single c) asked = absurd (omega (arith, both, asked.whole))
+  only_together buffer (Pair c d) asked = only_both buffer c d asked
+
+  pub together : IsLengthWith size (first ++ second) (called_for size first + called_for size second)
+  together = record {
+    taken = λ host buffer is.
+        let found = taken_both buffer is in
+        (record { host = host; body = Pair found.0 found.1.0 }, record { by_host = refl; body = found.1.1 });
+    only = λ host buffer job asked. only_together buffer job.body asked.body;
+  }
 
 -- The number of entries is what they are taken for.
 pub of_one : (size : ℕ) (es : List (List ℕ)) (count : ℕ) → 1 ≤ length es → length es < 2
-    → IsCarriedAlone size (get_or es 0 []) count → IsCarried size es count
+    → IsLengthWith size (get_or es 0 []) count → IsCarried size es count
 of_one size [] count some few is = absurd (omega (arith, some))
 of_one size (e ∷ []) count some few is = is
 of_one size (e ∷ (f ∷ rest)) count some few is = absurd (omega (arith, few))
 
 pub of_two : (size : ℕ) (es : List (List ℕ)) (count : ℕ) → 2 ≤ length es → length es < 3
-    → IsCarriedTogether size (get_or es 0 [] ++ get_or es 1 []) count → IsCarried size es count
+    → IsLengthWith size (get_or es 0 [] ++ get_or es 1 []) count → IsCarried size es count
 of_two size [] count some few is = absurd (omega (arith, some))
 of_two size (e ∷ []) count some few is = absurd (omega (arith, some))
 of_two size (e ∷ (f ∷ [])) count some few is = is

@@ -2,23 +2,18 @@
 use Rattle.std.specs.Prelude.{◌≡◌, ℕ, ◌+◌, ◌*◌, ◌-◌, ◌^◌, if◌then◌else◌, List, [], ◌∷◌, ◌++◌, length, drop}
 use Rattle.byteorder.specs.Endian.{little_number}
 use Rattle.nvm_record.specs.Entry.{called_for}
-use Rattle.nvm_record.specs.declared.command.Command.{Command}
-use Rattle.nvm_c.specs.Asked.{IsAskedAlone, IsAskedTogether, op_in, reads}
+use Rattle.nvm_plan.specs.declared.job.Job.{Job}
+use Rattle.nvm_c.specs.Asked.{IsAsked, op_in, reads}
 
 -- the data of an entry by itself, or the room for what it reads
 abbrev pub carried_alone : ℕ → List ℕ → ℕ
 carried_alone size entry =
     if reads (op_in entry) then (little_number 2 (drop 48 entry) + 1) * size else called_for size entry
 
--- With a buffer of this length, whatever its bytes are, the entry asks for a command, and with no other buffer.
-pub record IsCarriedAlone (size : ℕ) (entry : List ℕ) (count : ℕ) : Type 0 where
-  pub taken : (buffer : List ℕ) → length buffer ≡ count → (c : Command) × IsAskedAlone size entry buffer c
-  pub only : (buffer : List ℕ) (c : Command) → IsAskedAlone size entry buffer c → length buffer ≡ count
-
--- With a buffer of this length, whatever its bytes are, the two entries ask for two commands, and with no other buffer.
-pub record IsCarriedTogether (size : ℕ) (entries : List ℕ) (count : ℕ) : Type 0 where
-  pub taken : (buffer : List ℕ) → length buffer ≡ count → (c : Command) × ((d : Command) × IsAskedTogether size entries buffer c d)
-  pub only : (buffer : List ℕ) (c d : Command) → IsAskedTogether size entries buffer c d → length buffer ≡ count
+-- With a buffer of this length, whatever its bytes are, the entries ask for a job, and with no other buffer.
+pub record IsLengthWith (size : ℕ) (entries : List ℕ) (count : ℕ) : Type 0 where
+  pub taken : (host : ℕ) (buffer : List ℕ) → length buffer ≡ count → (job : Job) × IsAsked size host entries buffer job
+  pub only : (host : ℕ) (buffer : List ℕ) (job : Job) → IsAsked size host entries buffer job → length buffer ≡ count
 
 -- what is answered where no buffer is right
 abbrev pub no_length : ℕ
@@ -27,6 +22,6 @@ no_length = 2 ^ 64 - 1
 -- what is answered for so many entries
 abbrev pub IsCarried : ℕ → List (List ℕ) → ℕ → Type 0
 IsCarried size [] count = count ≡ no_length
-IsCarried size (entry ∷ []) count = IsCarriedAlone size entry count
-IsCarried size (first ∷ (second ∷ [])) count = IsCarriedTogether size (first ++ second) count
+IsCarried size (entry ∷ []) count = IsLengthWith size entry count
+IsCarried size (first ∷ (second ∷ [])) count = IsLengthWith size (first ++ second) count
 IsCarried size (first ∷ (second ∷ (third ∷ rest))) count = count ≡ no_length

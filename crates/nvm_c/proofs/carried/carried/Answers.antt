@@ -1,6 +1,6 @@
 use Rattle.std.proofs.Common.{◌≡◌, ◌∙◌, ◌+◌, ◌++◌, [], ap, get_or, length, List, ℕ, sym, subst, arith}
 use Rattle.nvm_record.specs.Entry.{called_for}
-use Rattle.nvm_c.specs.Carried.{IsCarriedAlone, IsCarriedTogether, carried_alone}
+use Rattle.nvm_c.specs.Carried.{IsLengthWith, carried_alone}
 use Rattle.nvm_c.proofs.BufferLengths.{alone, of_one, of_two, together}
 use Rattle.nvm_c.proofs.carried.carried.Goals as goal
 
@@ -12,7 +12,7 @@ returns-in-len1-clause-length c = λ is.
     let count : c.carried_alone.result ≡ carried_alone size entry =
     c.carried_alone.ensures ∙ ap (λ (n : ℕ). carried_alone n entry) c.in-Some.ensures.1 in
     of_one size c.args.entries.now c.carried_alone.result c.in-len1.len_at_least c.in-len1.len_below
-    (subst (λ (n : ℕ). IsCarriedAlone size entry n) (sym count) (alone size entry whole))
+    (subst (λ (n : ℕ). IsLengthWith size entry n) (sym count) (alone size entry whole))
 
 pub returns-in-len2-clause-length : goal.returns-in-len2-clause-length
 returns-in-len2-clause-length c = λ is.
@@ -28,4 +28,4 @@ returns-in-len2-clause-length c = λ is.
     let count : c.called.result + c.called-in-len2.result ≡ called_for size first + called_for size second =
     ap (λ (n : ℕ). n + c.called-in-len2.result) a ∙ ap (λ (n : ℕ). called_for size first + n) b in
     of_two size c.args.entries.now (c.called.result + c.called-in-len2.result) c.in-len2.len_at_least c.in-len2.len_below
-    (subst (λ (n : ℕ). IsCarriedTogether size (first ++ second) n) (sym count) (together size first second one other))
+    (subst (λ (n : ℕ). IsLengthWith size (first ++ second) n) (sym count) (together size first second one other))
