@@ -9,4 +9,4 @@ pub mod Levels
 pub mod Source
 -- The blocks of a unit in one piece of memory.
 pub mod Own
-pub mod Kept
+pub mod Memory

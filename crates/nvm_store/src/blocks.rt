@@ -32,12 +32,12 @@ pub const MOST_OWN_BYTES: usize = 65_536;
 /// The blocks of one unit, which contracts see as their list. After an `Err` all blocks are as they were.
 #[derive(Drop)]
 pub struct Blocks {
-    kept: Kept,
+    memory: Memory,
 }
 
 /// Where they are.
 #[derive(Drop)]
-pub enum Kept {
+pub enum Memory {
     /// In a tree, which copies share.
     Shared(SharedBlocks),
     /// In one piece of memory, which is theirs alone.
@@ -47,11 +47,11 @@ pub enum Kept {
 impl Model for Blocks {
     ghost use Rattle.std.specs.Prelude.{List};
     ghost use Rattle.nvm_record.specs.declared.block.Block.{Block};
-    ghost use Rattle.nvm_store.specs.Inside.Kept.{listed};
+    ghost use Rattle.nvm_store.specs.Inside.Memory.{listed};
 
     ghost Value = { List Block };
 
-    ghost view = { λ b. listed b.kept };
+    ghost view = { λ b. listed b.memory };
 }
 
 /// Shows how many blocks there are.
@@ -69,11 +69,12 @@ impl Blocks {
     {
         let blocks = SharedBlocks::zeroed(alloc, count, size)?;
         Ok(Blocks {
-            kept: Kept::Shared(blocks),
+            memory: Memory::Shared(blocks),
         })
     }
 
-    /// The same, in one piece of memory if they have at most `MOST_OWN_BYTES`, which is asked for when the first of them is written.
+    /// The same, in one piece of memory if they have at most `MOST_OWN_BYTES`, which is asked for when the first of them is written
+    /// and given back when all of them are zeroed at once.
     pub fn own(alloc: Global, count: usize, size: usize) -> Result<Blocks, NoMemory>
         requires { count * size < 2 ^ 63 }
         ensures { IfOk result (λ blocks. blocks ≡ replicate count (zero_block size)) }
@@ -83,7 +84,7 @@ impl Blocks {
         }
         let blocks = OwnBlocks::zeroed(alloc, count, size);
         Ok(Blocks {
-            kept: Kept::Own(blocks),
+            memory: Memory::Own(blocks),
         })
     }
 
@@ -91,9 +92,9 @@ impl Blocks {
     pub fn len(&self) -> usize
         ensures { result ≡ length self.now }
     {
-        match &self.kept {
-            Kept::Shared(blocks) => blocks.len(),
-            Kept::Own(blocks) => blocks.len(),
+        match &self.memory {
+            Memory::Shared(blocks) => blocks.len(),
+            Memory::Own(blocks) => blocks.len(),
         }
     }
 
@@ -102,11 +103,11 @@ impl Blocks {
     pub fn share(&self) -> Result<Blocks, NoMemory>
         ensures { IfOk result (λ blocks. blocks ≡ self.now) }
     {
-        let kept = match &self.kept {
-            Kept::Shared(blocks) => Kept::Shared(blocks.share()?),
-            Kept::Own(blocks) => Kept::Own(blocks.copy()?),
+        let memory = match &self.memory {
+            Memory::Shared(blocks) => Memory::Shared(blocks.share()?),
+            Memory::Own(blocks) => Memory::Own(blocks.copy()?),
         };
-        Ok(Blocks { kept })
+        Ok(Blocks { memory })
     }
 
     /// The `count` blocks from place `at` take the data, in blocks of `size` bytes.
@@ -125,12 +126,12 @@ impl Blocks {
         ensures ok { OnOk result (IsRewritten at count (block_at size (lent_bytes payload.entry)) self.old self.new) }
         ensures err { OnErr result (self.new ≡ self.old) }
     {
-        match &mut self.kept {
-            Kept::Shared(blocks) => {
+        match &mut self.memory {
+            Memory::Shared(blocks) => {
                 let payload = payload.share()?;
                 blocks.write(alloc, at, count, size, payload)
             }
-            Kept::Own(blocks) => blocks.write(at, count, size, payload.as_slice()),
+            Memory::Own(blocks) => blocks.write(at, count, size, payload.as_slice()),
         }
     }
 
@@ -148,9 +149,9 @@ impl Blocks {
             (IsRewritten at count (λ _. zero_block size) self.old self.new) }
         ensures err { OnErr result (self.new ≡ self.old) }
     {
-        match &mut self.kept {
-            Kept::Shared(blocks) => blocks.zero(alloc, at, count, size),
-            Kept::Own(blocks) => {
+        match &mut self.memory {
+            Memory::Shared(blocks) => blocks.zero(alloc, at, count, size),
+            Memory::Own(blocks) => {
                 blocks.zero(alloc, at, count, size);
                 Ok(())
             }
@@ -163,12 +164,12 @@ impl Blocks {
         ensures ok { OnOk result (IsRewritten at count (λ _. Uncorrectable) self.old self.new) }
         ensures err { OnErr result (self.new ≡ self.old) }
     {
-        match &mut self.kept {
-            Kept::Shared(blocks) => blocks.mark(alloc, at, count),
-            Kept::Own(blocks) => {
+        match &mut self.memory {
+            Memory::Shared(blocks) => blocks.mark(alloc, at, count),
+            Memory::Own(blocks) => {
                 let mut after = blocks.shared(alloc)?;
                 after.mark(alloc, at, count)?;
-                self.kept = Kept::Shared(after);
+                self.memory = Memory::Shared(after);
                 Ok(())
             }
         }
@@ -179,9 +180,9 @@ impl Blocks {
         requires { at + count ≤ length self.now }
         ensures { result ≡ medium.has_mark (stretch_of at count self.now) }
     {
-        match &self.kept {
-            Kept::Shared(blocks) => blocks.has_mark(at, count),
-            Kept::Own(blocks) => blocks.has_mark(at, count),
+        match &self.memory {
+            Memory::Shared(blocks) => blocks.has_mark(at, count),
+            Memory::Own(blocks) => blocks.has_mark(at, count),
         }
     }
 
@@ -191,9 +192,9 @@ impl Blocks {
         requires { at + count ≤ length self.now }
         ensures { result ≡ bytes_eq (medium.joined (stretch_of at count self.now)) payload.now }
     {
-        match &self.kept {
-            Kept::Shared(blocks) => blocks.is_equal(at, count, payload),
-            Kept::Own(blocks) => blocks.is_equal(at, count, payload),
+        match &self.memory {
+            Memory::Shared(blocks) => blocks.is_equal(at, count, payload),
+            Memory::Own(blocks) => blocks.is_equal(at, count, payload),
         }
     }
 
@@ -204,9 +205,9 @@ impl Blocks {
         ensures { OnOk result
             (bytes.new.items ≡ bytes.old.items ++ medium.joined (stretch_of at count self.now)) }
     {
-        match &self.kept {
-            Kept::Shared(blocks) => blocks.push_bytes(at, count, bytes),
-            Kept::Own(blocks) => blocks.push_bytes(at, count, bytes),
+        match &self.memory {
+            Memory::Shared(blocks) => blocks.push_bytes(at, count, bytes),
+            Memory::Own(blocks) => blocks.push_bytes(at, count, bytes),
         }
     }
 }

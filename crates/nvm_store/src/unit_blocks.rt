@@ -135,6 +135,8 @@ impl UnitBlocks {
     /// unit holds. A Deallocate clears each block once, and costs a walk over the ranges for each run of
     /// blocks that it clears. Where no other unit shares them, these are changed in place: one block that is
     /// written, and blocks of one leaf that are zeroed, marked, or cleared as the only run of a Deallocate.
+    /// Blocks in one piece of memory are written and zeroed in place: the first that is written makes all of the unit's bytes, and a mark
+    /// and a Deallocate of several runs copy them, which are 65,536 at most.
     /// Where memory is refused, the unit is as it was.
     #[inline(always)]
     pub fn change(&mut self, alloc: Global, act: ActRef<'_>) -> Result<(), NoMemory>
