@@ -574,13 +574,13 @@ static bool lengths_are_told(void)
 }
 
 /* Where memory is refused at the nth time, a command ends by its code or with 0/06, and the port goes on working. */
-static bool starved_in_the_midst(void)
+static bool starved_in_the_midst(bool versions)
 {
     uint8_t entry[ZK_ENTRY_BYTES], block[BLOCK], told[ZK_COMPLETION_BYTES];
     entry_of(entry, WRITE, 0, 1, 0, 1);
     for (unsigned nth = 0; nth < 8; nth++) {
         memset(block, 7, sizeof block);
-        if (!open_all(true))
+        if (!open_all(versions))
             return false;
         refuses_from = nth + 1;
         int code = zk_submit(ports, entry, sizeof entry, block, sizeof block, told, sizeof told);
@@ -600,6 +600,80 @@ static bool starved_in_the_midst(void)
         close_all();
     }
     return true;
+}
+
+/* Does one command of the first port on `blocks` blocks from LBA `slba`, and answers its status, or -1 where the call itself is refused. */
+static int status_after(uint8_t opcode, uint64_t slba, uint32_t blocks, uint8_t *data, size_t length)
+{
+    uint8_t entry[ZK_ENTRY_BYTES], told[ZK_COMPLETION_BYTES];
+    entry_of(entry, opcode, 0, 1, slba, blocks);
+    return zk_submit(ports, entry, sizeof entry, data, length, told, sizeof told) == ZK_DONE ? status_of(told) : -1;
+}
+
+/* In a unit whose blocks are in one piece of memory a mark, and a Deallocate of two runs, are done or refused as a whole, wherever memory is refused. */
+static bool one_piece_starved(bool marks)
+{
+    enum { UNIT = 8 };
+    static uint8_t data[UNIT * BLOCK], read[UNIT * BLOCK], ranges[2 * RANGE_BYTES];
+    bool all_done = false;
+    for (unsigned nth = 1; !all_done; nth++) {
+        memset(data, 7, sizeof data);
+        if (nth > 64 || !open_all(false) || status_after(WRITE, 0, UNIT, data, sizeof data) != 0)
+            return false;
+        range_of(ranges, 0, 1);
+        range_of(ranges + RANGE_BYTES, 3, 1);
+        uint8_t entry[ZK_ENTRY_BYTES], told[ZK_COMPLETION_BYTES];
+        if (marks)
+            entry_of(entry, WRITE_UNCORRECTABLE, 0, 1, 0, 1);
+        else
+            deallocate_of(entry, 1, 2);
+        refuses_from = nth;
+        int code = zk_submit(ports, entry, sizeof entry, ranges, marks ? 0 : sizeof ranges, told, sizeof told);
+        all_done = refuses_from != 0;
+        refuses_from = 0;
+        refuses = false;
+        bool done = code == ZK_DONE && status_of(told) == 0;
+        if (all_done ? !done : code != ZK_NO_MEMORY && (code != ZK_DONE || status_of(told) != 0x006))
+            return false;
+        if (done && marks && status_after(READ, 0, UNIT, read, sizeof read) != 0x281)
+            return false;
+        size_t from = done && marks ? 1 : 0;
+        if (status_after(READ, from, (uint32_t)(UNIT - from), read + from * BLOCK, (UNIT - from) * BLOCK) != 0)
+            return false;
+        if (done && !marks) {
+            memset(data, 0, BLOCK);
+            memset(data + 3 * BLOCK, 0, BLOCK);
+        }
+        if (memcmp(read + from * BLOCK, data + from * BLOCK, (UNIT - from) * BLOCK) != 0)
+            return false;
+        close_all();
+    }
+    return true;
+}
+
+/* Once a unit was written, and a port had data as long, commands in the unit take no memory, whatever their length. */
+static bool whole_units_settle(void)
+{
+    enum { UNIT = 8 };
+    static uint8_t data[2 * UNIT * BLOCK];
+    uint8_t pair[2 * ZK_ENTRY_BYTES], told[2 * ZK_COMPLETION_BYTES];
+    entry_of(pair, COMPARE, FUSED_FIRST, 1, 0, UNIT);
+    entry_of(pair + ZK_ENTRY_BYTES, WRITE, FUSED_SECOND, 2, 0, UNIT);
+    memset(data, 5, sizeof data);
+    recorded = false;
+    if (!open_all(false))
+        return false;
+    bool right = true;
+    for (int turn = 0; turn < 3; turn++) {
+        refuses = turn > 0;
+        right &= status_after(WRITE, 0, UNIT, data, UNIT * BLOCK) == 0;
+        right &= zk_submit(ports, pair, sizeof pair, data, sizeof data, told, sizeof told) == ZK_DONE && status_of(told + ZK_COMPLETION_BYTES) == 0;
+        right &= status_after(COMPARE, 0, UNIT, data, UNIT * BLOCK) == 0;
+        right &= status_after(WRITE_ZEROES, 2, 4, data, 0) == 0;
+    }
+    refuses = false;
+    close_all();
+    return right;
 }
 
 /* Where memory is refused at the nth time, a record is refused too, and it can be asked for again: then it is there whole. */
@@ -777,8 +851,16 @@ int main(int words, char **word)
     }
     if (!lengths_are_told())
         right = false;
-    if (!starved_in_the_midst()) {
+    if (!starved_in_the_midst(true) || !starved_in_the_midst(false)) {
         fprintf(stderr, "misuses: a Write to which memory is refused in the midst\n");
+        right = false;
+    }
+    if (!one_piece_starved(true) || !one_piece_starved(false)) {
+        fprintf(stderr, "misuses: a unit in one piece, of which a mark or a Deallocate is refused memory\n");
+        right = false;
+    }
+    if (!whole_units_settle()) {
+        fprintf(stderr, "misuses: a command of a whole unit that takes memory\n");
         right = false;
     }
     if (!record_starved()) {
