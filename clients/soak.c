@@ -1,9 +1,9 @@
 /* Has 64 ports of one namespace that isn't recorded do commands of every kind, for minutes or for months, and holds each answer to
  * what the port that asked knows for certain.
  *
- *     soak [--seconds N] [--threads N] [--seed N] [--every SECONDS]
+ *     soak [--seconds N] [--threads N] [--seed N] [--every SECONDS] [--versions 0]
  *
- * Without words it runs for 60 seconds with a thread for each port. With fewer threads each has several ports, which it serves in turn.
+ * With --versions 0 it opens the namespace without versions, so that a unit is one piece of memory and zk_read_now isn't asked. Without words it runs for 60 seconds with a thread for each port. With fewer threads each has several ports, which it serves in turn.
  * What a port asks for follows from the seed, its number and the command's place alone; when it is done doesn't.
  *
  * A written block is a stamp: who wrote it, the number of that port's change, the command's range, and bytes that follow from these. So a
@@ -102,6 +102,7 @@ struct port {
 };
 
 static uint64_t seed = 1;
+static bool versions = true;
 static long long started;
 static struct zk_port handles[PORTS];
 static struct port ports[PORTS];
@@ -757,6 +758,8 @@ static bool begin(struct port *p)
     }
     if (kind < 48)
         return ask_read(p, some_range(p, some_zone(p), false));
+    if (kind < 60 && !versions)
+        return ask_read(p, some_range(p, some_zone(p), true));
     if (kind < 60) {
         ask(p, "zk_read_now", READ, some_range(p, some_zone(p), true), NOTHING);
         p->asked.length = p->asked.range.blocks * BLOCK;
@@ -911,7 +914,7 @@ static int soak(unsigned threads, double seconds, double every)
         ports[i].number = i;
         ports[i].handle = &handles[i];
     }
-    int code = zk_open(handles, PORTS, &ns, ZK_NO_LIMIT, true);
+    int code = zk_open(handles, PORTS, &ns, ZK_NO_LIMIT, versions);
     if (code != ZK_DONE) {
         fprintf(stderr, "soak: zk_open answers code %d\n", code);
         return 1;
@@ -959,10 +962,12 @@ int main(int words, char **word)
             seed = strtoull(value, NULL, 0);
         else if (*value && strcmp(word[i], "--every") == 0)
             every = atof(value);
+        else if (strcmp(word[i], "--versions") == 0 && strcmp(value, "0") == 0)
+            versions = false;
         else
             threads = 0;
         if (threads < 1 || threads > PORTS || seconds <= 0 || every <= 0) {
-            fprintf(stderr, "soak [--seconds N] [--threads N] [--seed N] [--every SECONDS]\n");
+            fprintf(stderr, "soak [--seconds N] [--threads N] [--seed N] [--every SECONDS] [--versions 0]\n");
             return 2;
         }
     }
