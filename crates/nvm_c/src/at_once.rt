@@ -197,6 +197,7 @@ impl Engine {
 }
 
 /// Keeps the memory of data that isn't needed any more, if it has some, for that of a later command.
+#[inline(always)]
 fn keep_memory(spare: &mut Payload, data: Payload) {
     if !data.is_empty() {
         *spare = data;

@@ -90,6 +90,7 @@ impl Log {
 }
 
 /// The number of the next job: where nothing is recorded the next of the port itself, and else the next of the namespace.
+#[inline(always)]
 pub(crate) fn draw(next: &mut u32, log: &mut Option<Log>) -> Result<u32, NoMemory>
     ensures drawn { IfOk result (λ number. HasDrawn next.old next.new (kept_by log.old) (kept_by log.new) number) }
     ensures room { OnOk result (HasRoomIn log.new) }
