@@ -192,7 +192,7 @@ int zk_poll(struct zk_port *port, uint8_t *data, size_t data_length, uint8_t *co
  * controllers, and NGUID or EUI64 (bytes 104 and 120). NAWUPF and NABSPF stay 0: nothing outlives a power failure. A NAWUN or
  * NACWU of 0 stands for AWUN or ACWU of the controller there, so report 0 in those. The page never changes. `data` is
  * ZK_IDENTIFY_BYTES long.
- * What Linux's host makes of it, by its source: its atomic writes are to outlive a power failure, so it goes by NAWUPF and NABSPF, where NABO is 0, and not by
+ * What Linux's host makes of it, from memory of its source, and never tried: its atomic writes are to outlive a power failure, so it goes by NAWUPF and NABSPF, where NABO is 0, and not by
  * NAWUN and NABSN; where NAWUPF is 0 it goes by AWUPF of the controller, and with 0 in that too a single block is atomic. A guest that is killed tears nothing, and with
  * this process all blocks are gone, so where you write nothing back to a disk NAWUN and NABSN can stand there too: that is your promise, and not this library's. Of DLFEAT it
  * makes use where bit 3 is set beside 001b: then it sets DEAC in Write Zeroes, which changes nothing here. By NGUID or EUI64 it names the disk in /dev/disk/by-id, and
