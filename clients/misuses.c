@@ -651,11 +651,12 @@ static bool one_piece_starved(bool marks)
     return true;
 }
 
-/* Once a unit was written, and a port had data as long, commands in the unit take no memory, whatever their length. */
+/* Once a unit was written, and a port had data as long, commands in the unit take no memory, whatever their length. Reads and Compares still
+ * take none once one of its blocks was marked, so that they are in several pieces. */
 static bool whole_units_settle(void)
 {
     enum { UNIT = 8 };
-    static uint8_t data[2 * UNIT * BLOCK];
+    static uint8_t data[2 * UNIT * BLOCK], read[UNIT * BLOCK];
     uint8_t pair[2 * ZK_ENTRY_BYTES], told[2 * ZK_COMPLETION_BYTES];
     entry_of(pair, COMPARE, FUSED_FIRST, 1, 0, UNIT);
     entry_of(pair + ZK_ENTRY_BYTES, WRITE, FUSED_SECOND, 2, 0, UNIT);
@@ -669,9 +670,82 @@ static bool whole_units_settle(void)
         right &= status_after(WRITE, 0, UNIT, data, UNIT * BLOCK) == 0;
         right &= zk_submit(ports, pair, sizeof pair, data, sizeof data, told, sizeof told) == ZK_DONE && status_of(told + ZK_COMPLETION_BYTES) == 0;
         right &= status_after(COMPARE, 0, UNIT, data, UNIT * BLOCK) == 0;
+        memset(read, 0, sizeof read);
+        right &= status_after(READ, 0, UNIT, read, sizeof read) == 0 && memcmp(read, data, sizeof read) == 0;
         right &= status_after(WRITE_ZEROES, 2, 4, data, 0) == 0;
+        /* What has no data leaves the port what it keeps: a Read above the last block, an opcode that isn't served, a Read of two units. */
+        right &= status_after(READ, usual.nsze, 1, read, BLOCK) == 0x080 && status_after(0, 0, 1, data, 0) == 0x001;
+        right &= status_after(READ, UNIT - 1, 2, read, 2 * BLOCK) == (turn > 0 ? 0x006 : 0);
     }
     refuses = false;
+    right &= status_after(WRITE_UNCORRECTABLE, 0, 1, data, 0) == 0;
+    refuses = true;
+    memset(data + BLOCK, 0, 4 * BLOCK);
+    right &= status_after(READ, 0, UNIT, read, sizeof read) == 0x281;
+    right &= status_after(READ, 2, UNIT - 2, read, (UNIT - 2) * BLOCK) == 0 && memcmp(read, data + BLOCK, (UNIT - 2) * BLOCK) == 0;
+    right &= status_after(COMPARE, 2, UNIT - 2, data + BLOCK, (UNIT - 2) * BLOCK) == 0;
+    refuses = false;
+    close_all();
+    return right;
+}
+
+/* In a unit of more than 65,536 bytes a block that was written alone is written again, read and compared without memory. Where memory is refused at
+ * the nth time to a Write of several blocks, all of them are as they were. */
+static bool large_units(void)
+{
+    enum { BLOCKS = 256, SOME = 20 };
+    static const struct zk_namespace large = { BLOCKS, BLOCK, BLOCKS - 1, 0, BLOCKS - 1, BLOCKS - 1 };
+    static uint8_t data[SOME * BLOCK], read[SOME * BLOCK];
+    if (zk_open(ports, 1, &large, ZK_NO_LIMIT, false) != ZK_DONE)
+        return false;
+    memset(data, 4, sizeof data);
+    bool right = status_after(WRITE, 3, SOME, data, sizeof data) == 0 && status_after(WRITE, 5, 1, data, BLOCK) == 0;
+    refuses = true;
+    memset(data, 5, BLOCK);
+    right &= status_after(WRITE, 5, 1, data, BLOCK) == 0 && status_after(COMPARE, 5, 1, data, BLOCK) == 0;
+    memset(data, 4, BLOCK);
+    memset(data + 2 * BLOCK, 5, BLOCK);
+    right &= status_after(READ, 3, SOME, read, sizeof read) == 0 && memcmp(read, data, sizeof read) == 0;
+    refuses = false;
+    memset(read, 6, sizeof read);
+    bool done = false;
+    for (unsigned nth = 1; right && !done; nth++) {
+        refuses_from = nth;
+        int status = status_after(WRITE, 3, SOME, read, sizeof read);
+        done = refuses_from != 0;
+        refuses_from = 0;
+        refuses = false;
+        right = nth < 64 && status == (done ? 0 : 0x006) && status_after(COMPARE, 3, SOME, done ? read : data, sizeof data) == 0;
+    }
+    zk_close(ports);
+    return right;
+}
+
+/* A Write and a pair that have to wait keep their data, whatever becomes of the caller's. */
+static bool waiting_keeps_its_data(void)
+{
+    uint8_t entries[2 * ZK_ENTRY_BYTES], data[2 * BLOCK], told[2 * ZK_COMPLETION_BYTES], read[BLOCK], kept[BLOCK];
+    bool right = true;
+    recorded = false;
+    for (int turn = 0; right && turn < 4; turn++) {
+        bool is_pair = turn % 2;
+        struct holder holder = { 0 };
+        if (!hold_unit(&holder))
+            return false;
+        /* What the other's Write leaves there. */
+        memset(data, 0, sizeof data);
+        data[0] = is_pair;
+        memset(is_pair ? data + BLOCK : data, 9, BLOCK);
+        memset(kept, 9, sizeof kept);
+        entry_of(entries, is_pair ? COMPARE : WRITE, is_pair ? FUSED_FIRST : 0, 1, 0, 1);
+        entry_of(entries + ZK_ENTRY_BYTES, WRITE, FUSED_SECOND, 2, 0, 1);
+        size_t count = is_pair ? 2 : 1;
+        right = zk_submit(ports, entries, count * ZK_ENTRY_BYTES, data, count * BLOCK, told, count * ZK_COMPLETION_BYTES) == ZK_PENDING;
+        memset(data, 0xee, sizeof data);
+        let_go(&holder);
+        right &= zk_poll(ports, data, count * BLOCK, told, count * ZK_COMPLETION_BYTES) == ZK_DONE && status_of(told) == 0;
+        right &= status_after(READ, 0, 1, read, BLOCK) == 0 && memcmp(read, kept, BLOCK) == 0;
+    }
     close_all();
     return right;
 }
@@ -861,6 +935,14 @@ int main(int words, char **word)
     }
     if (!whole_units_settle()) {
         fprintf(stderr, "misuses: a command of a whole unit that takes memory\n");
+        right = false;
+    }
+    if (!large_units()) {
+        fprintf(stderr, "misuses: a unit of more than 65,536 bytes that takes memory, or leaves half a Write\n");
+        right = false;
+    }
+    if (!waiting_keeps_its_data()) {
+        fprintf(stderr, "misuses: a command that has to wait loses its data\n");
         right = false;
     }
     if (!record_starved()) {

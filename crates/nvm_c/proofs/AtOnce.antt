@@ -1,13 +1,20 @@
 -- What a job that is done at once leaves.
-use Rattle.std.proofs.Common.{◌≡◌, ◌∙◌, ℕ, ◌+◌, ◌<◌, List, Option, None, refl, sym, ap, subst, arith}
+use Rattle.std.proofs.Common.{◌≡◌, ◌⊎◌, inl, inr, ◌∙◌, ℕ, ◌+◌, ◌-◌, ◌<◌, ◌≤◌, List, [], ◌∷◌, ◌++◌, length, take, drop, slice_range, Option, None, Some, unwrap_or, append-nil, refl, sym, ap, subst, arith}
+use Rattle.std.proofs.lemmas.List.{drop-take, length-drop, take-take, take_all}
+use Rattle.nvm_record.specs.declared.status.Statuses.{Statuses}
 use Rattle.nvm_geometry.specs.Namespace.{Namespace}
 use Rattle.nvm_plan.specs.Fits.{FitsNamespace, IsWholeBody}
 use Rattle.nvm_plan.specs.OnlyPart.{body_lent}
+use Rattle.nvm_plan.specs.Completions.{body_completions, data_in}
 use Rattle.nvm_plan.specs.declared.body_fields.BodyFields.{BodyFields}
+use Rattle.nvm_plan.specs.declared.completions.Completions.{Completions}
+use Rattle.nvm_plan.specs.declared.completions.Completions.TheVariants.{One, Two}
 use Rattle.nvm_plan.specs.declared.job.Body.{Body}
+use Rattle.nvm_plan.specs.declared.job.Body.TheVariants.{Pair, Single}
 use Rattle.nvm_plan.specs.declared.job.Job.{Job}
 use Rattle.nvm_space.specs.declared.job_done.JobDone.{JobDone}
 use Rattle.nvm_c.specs.Logs.{HasDrawn, LogState, kept_by, with_kept}
+use Rattle.nvm_c.specs.Told.{FitEntries, all_posted, overwritten, read_by}
 use Rattle.nvm_c.specs.declared.log.Log.{Log}
 
 -- Nothing is recorded after a number was drawn where nothing was before, and nothing is kept there.
@@ -25,6 +32,88 @@ pub body_fits : (ns : Namespace) (host : ℕ) (body : Body) (port : ℕ) → hos
 body_fits ns host body port is few whole = record { host = omega (arith, is); host_end = omega (arith, is, few); body = whole }
 
 -- Data that is lent is what it is lent of.
-pub lent_as : (fields : BodyFields) {payload compared lent also : List ℕ} → lent ≡ payload → also ≡ compared → body_lent fields payload compared ≡ body_lent fields lent also
+lent_as : (fields : BodyFields) {payload compared lent also : List ℕ} → lent ≡ payload → also ≡ compared → body_lent fields payload compared ≡ body_lent fields lent also
 lent_as fields {payload} {compared} {lent} {also} is is_too =
     ap (λ (bytes : List ℕ). body_lent fields bytes compared) (sym is) ∙ ap (body_lent fields lent) (sym is_too)
+
+payload_lent : (buffer front back : List ℕ) (called sent : ℕ) → called ≤ sent → front ≡ take sent buffer → back ≡ drop called front → back ≡ slice_range buffer called sent
+payload_lent buffer front back called sent le front_is is =
+    let rest = sent - called in
+    let whole : sent ≡ called + rest = omega (arith, le) in
+    is ∙ ap (drop called) (front_is ∙ ap (λ (n : ℕ). take n buffer) whole) ∙ drop-take called rest buffer
+
+compared_lent : (buffer front part : List ℕ) (called sent : ℕ) → called ≤ sent → front ≡ take sent buffer → part ≡ take called front → part ≡ take called buffer
+compared_lent buffer front part called sent le front_is is = is ∙ ap (take called) front_is ∙ take-take called sent buffer le
+
+-- The data that is lent of a buffer is that between two places, and what is compared is that up to the first.
+pub lent_of : (fields : BodyFields) (buffer : List ℕ) (called sent : ℕ) {front part back payload compared : List ℕ} → called ≤ sent → front ≡ take sent buffer
+    → part ≡ take called front → back ≡ drop called front → payload ≡ back → compared ≡ part
+    → body_lent fields (slice_range buffer called sent) (take called buffer) ≡ body_lent fields payload compared
+lent_of fields buffer called sent {front} {part} {back} {payload} {compared} le front_is part_is back_is is is_too =
+    lent_as fields (is ∙ payload_lent buffer front back called sent le front_is back_is) (is_too ∙ compared_lent buffer front part called sent le front_is part_is)
+
+pub back_slice : (buffer : List ℕ) (called : ℕ) → slice_range buffer called (length buffer) ≡ drop called buffer
+back_slice buffer called = take_all (length buffer - called) (drop called buffer) (omega (arith, length-drop called buffer))
+
+-- The entries don't show what was read.
+pub fit_alike : (host : ℕ) (body : Body) (statuses : Statuses) (read : Option (List ℕ)) → FitEntries (body_completions host body statuses read) → FitEntries (body_completions host body statuses None)
+fit_alike host (Single c) statuses read fit = fit
+fit_alike host (Pair c d) statuses read fit = fit
+
+pub posted_alike : (host : ℕ) (body : Body) (statuses : Statuses) (read : Option (List ℕ))
+    → all_posted (body_completions host body statuses None) ≡ all_posted (body_completions host body statuses read)
+posted_alike host (Single c) statuses read = refl
+posted_alike host (Pair c d) statuses read = refl
+
+no_items : (l : List ℕ) → length l ≡ 0 → l ≡ []
+no_items [] none = refl
+no_items (x ∷ l) none = absurd (omega (arith, none))
+
+none_behind : (l : List ℕ) (n : ℕ) → length l ≤ n → drop n l ≡ []
+none_behind l n le = no_items (drop n l) (omega (arith, length-drop n l, le))
+
+over_none : (buffer : List ℕ) → buffer ≡ overwritten [] buffer
+over_none buffer = sym (ap (λ (l : List ℕ). l ++ drop 0 buffer) (take_all (length buffer) [] (omega arith)))
+
+over_all : (bytes buffer : List ℕ) → length bytes ≡ length buffer → bytes ≡ overwritten bytes buffer
+over_all bytes buffer same =
+    sym (ap (λ (l : List ℕ). l ++ drop (length bytes) buffer) (take_all (length buffer) bytes (omega (arith, same)))
+    ∙ ap (λ (l : List ℕ). bytes ++ l) (none_behind buffer (length bytes) (omega (arith, same))) ∙ append-nil bytes)
+
+-- Data that was read took the room's place.
+read_over : (read : Option (List ℕ)) (buffer new : List ℕ) → new ≡ unwrap_or read buffer → length new ≡ length buffer → new ≡ overwritten (unwrap_or read []) buffer
+read_over None buffer new is same = is ∙ over_none buffer
+read_over (Some bytes) buffer new is same = is ∙ over_all bytes buffer (sym (ap length is) ∙ same)
+
+-- where there is no room, nothing was read
+nothing_over : (read : Option (List ℕ)) (buffer room new : List ℕ) → length room ≡ 0 → new ≡ unwrap_or read room → length new ≡ length room
+    → buffer ≡ overwritten (unwrap_or read []) buffer
+nothing_over None buffer room new none is same = over_none buffer
+nothing_over (Some bytes) buffer room new none is same =
+    over_none buffer ∙ ap (λ (l : List ℕ). overwritten l buffer) (sym (no_items bytes (sym (ap length is) ∙ same ∙ none)))
+
+no_room : (buffer : List ℕ) (sent : ℕ) → sent ≡ length buffer → length (drop sent buffer) ≡ 0
+no_room buffer sent all = omega (arith, length-drop sent buffer, all)
+
+whole_front : (buffer front room new : List ℕ) (sent : ℕ) → front ≡ take sent buffer → room ≡ drop sent buffer → length new ≡ length room
+    → sent ≡ length buffer → front ++ new ≡ buffer
+whole_front buffer front room new sent front_is room_is same all =
+    let none : new ≡ [] = no_items new (same ∙ ap length room_is ∙ no_room buffer sent all) in
+    ap (λ (l : List ℕ). front ++ l) none ∙ append-nil front ∙ front_is ∙ take_all sent buffer (omega (arith, all))
+
+read_told : (told : Completions) → read_by told ≡ unwrap_or (data_in told) []
+read_told (One c) = refl
+read_told (Two c d) = refl
+
+-- The buffer after a job that was done at once.
+pub buffer_told : (told : Completions) (buffer front room new : List ℕ) (sent : ℕ) → front ≡ take sent buffer → room ≡ drop sent buffer
+    → new ≡ unwrap_or (data_in told) room → length new ≡ length room → (sent ≡ length buffer) ⊎ (sent ≡ 0) → front ++ new ≡ overwritten (read_by told) buffer
+buffer_told told buffer front room new sent front_is room_is is same (inl all) =
+    rw (read_told told)
+    (whole_front buffer front room new sent front_is room_is same all
+    ∙ nothing_over (data_in told) buffer room new (ap length room_is ∙ no_room buffer sent all) is same)
+buffer_told told buffer front room new sent front_is room_is is same (inr none) =
+    let no_front : front ≡ [] = front_is ∙ ap (λ (n : ℕ). take n buffer) none in
+    let all_room : room ≡ buffer = room_is ∙ ap (λ (n : ℕ). drop n buffer) none in
+    rw (read_told told)
+    (ap (λ (l : List ℕ). l ++ new) no_front ∙ read_over (data_in told) buffer new (is ∙ ap (unwrap_or (data_in told)) all_room) (same ∙ ap length all_room))

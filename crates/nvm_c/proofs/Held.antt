@@ -1,5 +1,5 @@
 -- What was gathered can be held in a record.
-use Rattle.std.proofs.Common.{◌≡◌, ◌∙◌, ℕ, ◌<◌, ◌≤◌, List, length, Some, All, sym, refl, subst, arith}
+use Rattle.std.proofs.Common.{◌≡◌, ℕ, ◌<◌, ◌≤◌, List, length, Some, All, refl, arith}
 use Rattle.nvm_record.specs.Deeds.{IsAct}
 use Rattle.nvm_record.specs.Lists.{IsAt}
 use Rattle.nvm_geometry.specs.Boundaries.{units_of}

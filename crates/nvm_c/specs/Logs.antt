@@ -2,6 +2,7 @@
 use Rattle.std.specs.Prelude.{◌≡◌, ℕ, ◌+◌, ◌%◌, ◌^◌, ◌<◌, Bool, false, if◌then◌else◌, List, [], ◌∷◌, ◌++◌, Option, Some, None, vec_len, vec_capacity}
 use Rattle.nvm_record.specs.declared.status.Statuses.{Statuses}
 use Rattle.nvm_record.specs.declared.status.Statuses.TheVariants as statuses
+use Rattle.nvm_plan.specs.Completions.{data_in}
 use Rattle.nvm_plan.specs.declared.completions.Completions.{Completions}
 use Rattle.nvm_plan.specs.declared.completions.Completions.TheVariants.{One, Two}
 use Rattle.nvm_plan.specs.declared.job.Job.{Job}
@@ -38,11 +39,6 @@ abbrev pub statuses_in : Completions → Statuses
 statuses_in (One completion) = statuses.One completion.status
 statuses_in (Two first second) = statuses.Two first.status second.status
 
--- the data of a job's completions, which those of a pair don't have
-abbrev pub payload_in : Completions → Option (List ℕ)
-payload_in (One completion) = completion.payload
-payload_in (Two first second) = None
-
 -- what a record shows of the job of this number, of which this was told
 abbrev pub recorded_job : ℕ → JobDone → RecordedJob
 recorded_job number told =
@@ -50,7 +46,7 @@ recorded_job number told =
       job = number;
       parts = told.parts.items;
       statuses = statuses_in told.completions;
-      payload = payload_in told.completions;
+      payload = data_in told.completions;
     }
 
 -- the log with one more job behind the others, as long as a record has so many

@@ -19,7 +19,6 @@ use nvm_record::{
     read_command,
 };
 use std::alloc::Global;
-use std::mem::replace;
 
 /// The job of one entry, or of two that are a fused pair.
 pub(crate) fn asked_job(
@@ -90,7 +89,7 @@ fn asked_alone(alloc: Global, size: BlockSize, entry: &[u8], buffer: &[u8]) -> R
 }
 
 /// What of the buffer goes with a command: nothing with a Read.
-pub(crate) fn sent_with(op: Op, buffer: &[u8]) -> &[u8]
+fn sent_with(op: Op, buffer: &[u8]) -> &[u8]
     ensures { result.now ≡ spec.sent_with op buffer.now }
 {
     if reads(op) { &[] } else { buffer }
@@ -149,7 +148,7 @@ fn command_of(alloc: Global, size: BlockSize, entry: &[u8], data: &[u8]) -> Resu
     if data.len() != fields.op.data_length(fields.nlb, fields.nr, size) {
         return Err(Code::BadLength);
     }
-    match payload_of(alloc, data, &mut Payload::empty()) {
+    match Payload::copy_of(alloc, data) {
         Ok(payload) => Ok(command_with(&fields, payload)),
         Err(_) => Err(Code::NoMemory),
     }
@@ -168,26 +167,6 @@ pub(crate) fn command_with(fields: &EntryFields, payload: Payload) -> Command
         nlb: fields.nlb,
         payload,
     }
-}
-
-/// The bytes, copied into the memory of the spare data where that is as long, and else into new. No bytes take no memory.
-#[inline(always)]
-pub(crate) fn payload_of(
-    alloc: Global,
-    data: &[u8],
-    spare: &mut Payload,
-) -> Result<Payload, NoMemory>
-    ensures { IfOk result (λ p. p ≡ data.now) }
-{
-    if data.is_empty() {
-        return Ok(Payload::empty());
-    }
-    if spare.overwrite(data) {
-        return Ok(replace(spare, Payload::empty()));
-    }
-    // A block that shares the spare data has it for itself from now on.
-    *spare = Payload::empty();
-    Payload::copy_of(alloc, data)
 }
 
 /// The command of the entry of a Dataset Management and these ranges.

@@ -1,5 +1,5 @@
 //! Jobs that are done as they are submitted: a command by itself, or a fused pair, that lies in one unit which is free.
-ghost use Rattle.std.specs.Prelude.{◌≡◌, ◌+◌, ◌*◌, ◌<◌, ℕ, List, [], IsTrue, None, false, length};
+ghost use Rattle.std.specs.Prelude.{◌≡◌, ◌⊎◌, ◌+◌, ◌-◌, ◌*◌, ◌<◌, ◌≤◌, ℕ, List, [], IsTrue, None, false, length, slice_range, take};
 ghost use Rattle.std.specs.Bool.{OnTrue};
 ghost use Rattle.nvm_record.specs.Entry.{data_length};
 ghost use Rattle.nvm_record.specs.Op.{carries_ranges};
@@ -15,7 +15,7 @@ ghost use Rattle.nvm_c.specs.Logs.{HasRoomIn, kept_by};
 ghost use Rattle.nvm_c.specs.Submitted.{Progresses, Submits};
 ghost use Rattle.nvm_c.specs.Told.{posted_length};
 
-use crate::asking::{command_with, payload_of, plain_fields, reads, sent_with};
+use crate::asking::{command_with, plain_fields, reads};
 use crate::code::Code;
 use crate::engine::{Engine, Pending, told_statuses_fit_their_entries};
 use crate::log::draw;
@@ -23,10 +23,11 @@ use crate::quiet::Quiet;
 use crate::telling::tell;
 use nvm_plan::{Body, BodyFields, Completions, Job};
 use nvm_record::{
-    BlockSize, Completion, EntryFields, Fuse, Op, Payload, ReadData, Status, Statuses,
+    BlockSize, Completion, EntryFields, Fuse, Op, Payload, PayloadRef, Status, Statuses,
 };
 use nvm_space::{AtOnce, JobDone};
 use std::alloc::Global;
+use std::mem::replace;
 
 impl Engine {
     /// Submits a command by itself without ranges.
@@ -55,20 +56,21 @@ impl Engine {
         if !fits_buffer(&fields, size, data) || posted.len() != 16 {
             return Code::BadLength;
         }
-        let Ok(payload) = payload_of(alloc, sent_with(fields.op, data), &mut self.spare) else {
+        // A Read's buffer is room, and any other's is data.
+        let sent = if reads(fields.op) { 0 } else { data.len() };
+        if !make_room(&mut self.spare, sent) {
             return Code::NoMemory;
-        };
+        }
         let Ok(number) = draw(&mut self.number, &mut self.log) else {
             return Code::NoMemory;
         };
-        let compared = Payload::empty();
         self.submit_fields(
             alloc,
             number,
             host,
             BodyFields::Single(fields),
-            payload,
-            compared,
+            0,
+            sent,
             data,
             posted,
         )
@@ -105,16 +107,13 @@ impl Engine {
         if data.len() < called || posted.len() != 32 {
             return Code::BadLength;
         }
-        let (front, rest) = data.split_at(called);
-        if rest.len() != write.op.data_length(write.nlb, write.nr, size) {
+        let sent = data.len();
+        if sent - called != write.op.data_length(write.nlb, write.nr, size) {
             return Code::BadLength;
         }
-        let Ok(compared) = payload_of(alloc, front, &mut self.compared) else {
+        if !make_room(&mut self.compared, called) || !make_room(&mut self.spare, sent - called) {
             return Code::NoMemory;
-        };
-        let Ok(payload) = payload_of(alloc, rest, &mut self.spare) else {
-            return Code::NoMemory;
-        };
+        }
         let Ok(number) = draw(&mut self.number, &mut self.log) else {
             return Code::NoMemory;
         };
@@ -123,14 +122,15 @@ impl Engine {
             number,
             host,
             BodyFields::Pair(compare, write),
-            payload,
-            compared,
+            called,
+            sent,
             data,
             posted,
         )
     }
 
-    /// Begins the job of this number, of entries with these fields and this data, and goes on with it.
+    /// Begins the job of this number, of entries with these fields, and goes on with it. The data of a pair's Compare is in the buffer up to place
+    /// `called`, and that of a command by itself, or of a pair's Write, from there up to place `sent`. What is behind that is room for what a Read reads.
     #[inline(always)]
     fn submit_fields(
         &mut self,
@@ -138,8 +138,8 @@ impl Engine {
         number: u32,
         host: u16,
         fields: BodyFields,
-        payload: Payload,
-        compared: Payload,
+        called: usize,
+        sent: usize,
         data: &mut [u8],
         posted: &mut [u8],
     ) -> Code
@@ -150,36 +150,42 @@ impl Engine {
         requires log { HasRoomIn self.old.log }
         requires unlisted { (space_of self.old).lists ≡ false }
         requires host { host ≡ self.old.port.number + 1 }
-        requires whole { IsWholeBody (namespace_of self.old).block_size (body_lent fields payload compared) }
-        requires room { length posted.old ≡ posted_length (body_lent fields payload compared) }
+        requires called { called ≤ sent }
+        requires sent { (sent ≡ length data.old) ⊎ (sent ≡ 0) }
+        requires spare { sent - called ≤ length self.old.spare.items }
+        requires compared { called ≤ length self.old.compared.items }
+        requires whole { IsWholeBody (namespace_of self.old).block_size (body_lent fields (slice_range data.old called sent) (take called data.old)) }
+        requires room { length posted.old ≡ posted_length (body_lent fields (slice_range data.old called sent) (take called data.old)) }
         ensures sound { IsSound self.new }
         ensures space { space_of self.new ≡ space_of self.old }
         ensures number { self.new.number ≡ self.old.number }
-        ensures progress { Progresses result (space_of self.old) number (record { host = host; body = body_lent fields payload compared })
+        ensures progress { Progresses result (space_of self.old) number
+            (record { host = host; body = body_lent fields (slice_range data.old called sent) (take called data.old) })
             (seen_by self.old) (seen_by self.new) self.new.pending (kept_by self.old.log) (kept_by self.new.log)
             (record { bytes = data.old; posted = posted.old }) (record { bytes = data.new; posted = posted.new }) }
     {
         told_statuses_fit_their_entries();
-        match self.space.poll_lent(
+        let (front, room) = data.split_at_mut(sent);
+        let (compared, payload) = front.split_at(called);
+        let polled = self.space.poll_lent(
             alloc,
             &mut self.port,
             number,
             fields,
-            payload.lend(),
-            compared.lend(),
+            PayloadRef::of(payload),
+            PayloadRef::of(compared),
+            room,
             &Quiet,
-        ) {
-            AtOnce::Done {
-                statuses,
-                payload: read,
-            } => {
-                let done = job_done(alloc, host, fields, statuses, read);
-                tell(&done.completions, data, posted);
-                keep_memory(&mut self.compared, compared);
-                keep_memory(&mut self.spare, payload);
+        );
+        match polled {
+            AtOnce::Done(statuses) => {
+                let done = job_done(alloc, host, fields, statuses);
+                tell(&done.completions, &mut [], posted);
                 Code::Done
             }
             AtOnce::Pending(under_way) => {
+                let payload = keep_data(alloc, &mut self.spare, payload);
+                let compared = keep_data(alloc, &mut self.compared, compared);
                 let job = job_of(host, fields, payload, compared);
                 self.pending = Some(Pending {
                     number,
@@ -189,6 +195,8 @@ impl Engine {
                 Code::Pending
             }
             AtOnce::Apart => {
+                let payload = keep_data(alloc, &mut self.spare, payload);
+                let compared = keep_data(alloc, &mut self.compared, compared);
                 let mut held = Some(job_of(host, fields, payload, compared));
                 self.begin_numbered(alloc, number, &mut held, data, posted)
             }
@@ -196,12 +204,29 @@ impl Engine {
     }
 }
 
-/// Keeps the memory of data that isn't needed any more, if it has some, for that of a later command.
+/// Makes the spare memory at least this long, and says whether there was memory for that.
 #[inline(always)]
-fn keep_memory(spare: &mut Payload, data: Payload) {
-    if !data.is_empty() {
-        *spare = data;
+fn make_room(spare: &mut Vec<u8>, len: usize) -> bool
+    ensures { OnTrue result (len ≤ length spare.new.items) }
+{
+    if spare.len() >= len {
+        return true;
     }
+    spare.resize(len, 0).is_ok()
+}
+
+/// Keeps data in the spare memory, which goes with it. No data leaves the spare memory. It takes none.
+fn keep_data(alloc: Global, spare: &mut Vec<u8>, data: &[u8]) -> Payload
+    requires { length data.now ≤ length spare.old.items }
+    ensures { result ≡ data.now }
+{
+    if data.is_empty() {
+        return Payload::empty();
+    }
+    let mut bytes = replace(spare, Vec::new(alloc));
+    bytes.truncate(data.len());
+    bytes.copy_from_slice(data);
+    Payload::own(bytes)
 }
 
 /// Whether they are a Compare and a Write that are the first and the second of a fused pair.
@@ -227,27 +252,21 @@ fn fits_buffer(fields: &EntryFields, size: BlockSize, data: &[u8]) -> bool
     }
 }
 
-/// What is reported about the job of entries with these fields.
+/// What is reported about the job of entries with these fields, but for what a Read read.
 #[inline(always)]
-fn job_done(
-    alloc: Global,
-    host: u16,
-    fields: BodyFields,
-    statuses: Statuses,
-    payload: Option<ReadData>,
-) -> JobDone
+fn job_done(alloc: Global, host: u16, fields: BodyFields, statuses: Statuses) -> JobDone
     requires { (bytes compared : List ℕ) × IsForEach (body_lent fields bytes compared) statuses }
     ensures completions { (bytes compared : List ℕ)
-        → result.completions ≡ completions_of (record { host = host; body = body_lent fields bytes compared }) statuses payload }
+        → result.completions ≡ completions_of (record { host = host; body = body_lent fields bytes compared }) statuses None }
     ensures parts { result.parts.items ≡ [] }
 {
     let completions = match (fields, statuses) {
         (BodyFields::Single(alone), Statuses::One(status)) => {
-            Completions::One(completion(host, alone, status, payload))
+            Completions::One(completion(host, alone, status))
         }
         (BodyFields::Pair(compare, write), Statuses::Two(first, second)) => Completions::Two(
-            completion(host, compare, first, None),
-            completion(host, write, second, None),
+            completion(host, compare, first),
+            completion(host, write, second),
         ),
         _ => unreachable!("each command has a status"),
     };
@@ -257,21 +276,16 @@ fn job_done(
     }
 }
 
-/// What is reported about a command.
+/// What is reported about a command, but for what a Read read.
 #[inline(always)]
-fn completion(
-    host: u16,
-    fields: EntryFields,
-    status: Status,
-    payload: Option<ReadData>,
-) -> Completion
-    ensures { result ≡ record { host = host; cid = fields.cid; status = status; payload = payload } }
+fn completion(host: u16, fields: EntryFields, status: Status) -> Completion
+    ensures { result ≡ record { host = host; cid = fields.cid; status = status; payload = None } }
 {
     Completion {
         host,
         cid: fields.cid,
         status,
-        payload,
+        payload: None,
     }
 }
 

@@ -21,7 +21,7 @@ use crate::log::{Log, draw, keep};
 use crate::quiet::Quiet;
 use crate::telling::{entries_length, tell};
 use nvm_plan::{Body, Job};
-use nvm_record::{Op, Payload};
+use nvm_record::Op;
 use nvm_space::{JobUnderWay, Port, Progress, Space};
 use nvm_unit::Count;
 use std::alloc::Global;
@@ -35,10 +35,10 @@ pub struct Engine {
     /// The number of the next job, where the namespace isn't recorded.
     pub(crate) number: u32,
     pub(crate) pending: Option<Pending>,
-    /// Data of a command that was done, whose memory the next one's takes.
-    pub(crate) spare: Payload,
-    /// The same of what a pair's Compare had.
-    pub(crate) compared: Payload,
+    /// Memory for the data of a command that has to wait for its unit: as long as the longest since it was last taken along.
+    pub(crate) spare: Vec<u8>,
+    /// The same for a pair's Compare.
+    pub(crate) compared: Vec<u8>,
     /// What it did, where the namespace is recorded.
     pub(crate) log: Option<Log>,
 }

@@ -14,7 +14,7 @@ use crate::engine::Engine;
 use crate::handle::Handle;
 use crate::log::{Log, Numbering};
 use nvm_geometry::{Geometry, GeometryFault};
-use nvm_record::{NoMemory, Payload};
+use nvm_record::NoMemory;
 use nvm_space::Space;
 use nvm_store::Limit;
 use std::alloc::{AllocError, Global};
@@ -153,8 +153,8 @@ fn engines(
                 port,
                 number: 0,
                 pending: None,
-                spare: Payload::empty(),
-                compared: Payload::empty(),
+                spare: Vec::new(alloc),
+                compared: Vec::new(alloc),
                 log,
             },
         )?;

@@ -1,5 +1,5 @@
 ghost use Rattle.std.specs.Prelude.{◌≡◌, ◌⊎◌, ◌↔◌, ℕ, ◌+◌, ◌-◌, ◌<◌, ◌≤◌, IsTrue, IfOk, IfErr};
-ghost use Rattle.std.specs.Bool.{OnFalse};
+ghost use Rattle.std.specs.Bool.{OnFalse, OnTrue};
 ghost use Rattle.nvm_record.specs.BlockSize.{IsBlockSize};
 ghost use Rattle.nvm_geometry.specs.Namespace.{namespace_of};
 ghost use Rattle.nvm_geometry.specs.Boundaries.{unit_number, units_of, Crosses};
@@ -212,6 +212,7 @@ impl Geometry {
         requires some { 0 < blocks }
         requires in_range { slba + blocks ≤ self.nsze }
         ensures within { IsTrue result ↔ IsWithinPairLimit self slba blocks }
+        ensures one_unit { OnTrue result (LiesInUnit self slba blocks) }
         ensures beyond { OnFalse result ((self.nacwu + 1 < blocks) ⊎ Crosses self slba blocks) }
     {
         blocks <= u32::from(self.nacwu) + 1 && !self.crosses(slba, blocks)

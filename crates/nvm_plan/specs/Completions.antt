@@ -33,3 +33,8 @@ body_completions host (Pair c d) statuses payload =
 -- the completions of a job with these statuses and this data
 abbrev pub completions_of : Job → Statuses → Option (List ℕ) → Completions
 completions_of job statuses payload = body_completions job.host job.body statuses payload
+
+-- the data of a job's completions, which those of a pair don't have
+abbrev pub data_in : Completions → Option (List ℕ)
+data_in (completions.One c) = c.payload
+data_in (completions.Two c d) = None

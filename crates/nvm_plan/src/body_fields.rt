@@ -5,6 +5,7 @@ ghost use Rattle.nvm_record.specs.Deeds.{IsOnRange};
 ghost use Rattle.nvm_record.specs.Op.{carries_ranges};
 ghost use Rattle.nvm_record.specs.PayloadRef.{lent_bytes};
 ghost use Rattle.nvm_record.specs.declared.op.Fuse.TheVariants.{Normal};
+ghost use Rattle.nvm_geometry.specs.Limits.{LiesInUnit};
 ghost use Rattle.nvm_geometry.specs.Namespace.{Namespace};
 ghost use Rattle.nvm_store.specs.Place.{IsCovered};
 ghost use Rattle.nvm_store.specs.declared.place.Place.{Place as UnitPlace};
@@ -55,38 +56,39 @@ pub fn only_part<'a>(
     ready_jobs();
     parts_of_jobs();
     jobs_that_fit_have_their_data();
-    let (first, blocks, part) = ready_part(geometry, fields, payload, compared)?;
-    if geometry.crosses(first, blocks) {
-        return None;
-    }
+    let (first, part) = ready_part(geometry, fields, payload, compared)?;
     Some((geometry.unit_of(first), part))
 }
 
-/// The first LBA of a job's range, its blocks, and all that the job asks for there, where no check refuses it. It may be `None` all the same; as it is
-/// written it is so for a Dataset Management.
+/// The first LBA of a job's range, and all that the job asks for there, where no check refuses it and it lies in one unit. It may be `None` all the same; as
+/// it is written it is so for a Dataset Management.
 #[inline(always)]
 fn ready_part<'a>(
     geometry: &Geometry,
     fields: BodyFields,
     payload: PayloadRef<'a>,
     compared: PayloadRef<'a>,
-) -> Option<(u64, u32, LentPart<'a>)>
+) -> Option<(u64, LentPart<'a>)>
     ensures ready { IfSome result (λ all. IsReadyBody geometry.now (body_lent fields (lent_bytes payload.entry) (lent_bytes compared.entry))) }
-    ensures some { IfSome result (λ all. 0 < all.1) }
-    ensures range { IfSome result (λ all. all.0 + all.1 ≤ geometry.now.nsze) }
+    ensures some { IfSome result (λ all. 0 < (part_operation_of all.1).blocks) }
+    ensures range { IfSome result (λ all. all.0 < geometry.now.nsze) }
     ensures part { IfSome result (λ all. operation_of_body geometry.now (body_lent fields (lent_bytes payload.entry) (lent_bytes compared.entry))
-        ≡ Some (part_operation_of all.2)) }
-    ensures deed { IfSome result (λ all. IsOnRange (part_operation_of all.2).deed) }
-    ensures first { IfSome result (λ all. (part_operation_of all.2).first ≡ all.0) }
-    ensures blocks { IfSome result (λ all. (part_operation_of all.2).blocks ≡ all.1) }
+        ≡ Some (part_operation_of all.1)) }
+    ensures deed { IfSome result (λ all. IsOnRange (part_operation_of all.1).deed) }
+    ensures first { IfSome result (λ all. (part_operation_of all.1).first ≡ all.0) }
+    ensures inside { IfSome result (λ all. LiesInUnit geometry.now all.0 (part_operation_of all.1).blocks) }
 {
     match fields {
         BodyFields::Single(alone) => {
             if !passes_checks(geometry, &alone) {
                 return None;
             }
+            let first = alone.slba;
+            if geometry.crosses(first, u32::from(alone.nlb) + 1) {
+                return None;
+            }
             let part = whole_part(&alone, payload)?;
-            Some((alone.slba, u32::from(alone.nlb) + 1, part))
+            Some((first, part))
         }
         BodyFields::Pair(compare, write) => {
             if !is_ready_pair(geometry, &compare, &write) {
@@ -100,16 +102,17 @@ fn ready_part<'a>(
                 compare: compared,
                 write: payload,
             };
-            Some((first, blocks, LentPart::Act(act)))
+            Some((first, LentPart::Act(act)))
         }
     }
 }
 
-/// Whether no check refuses a pair of these fields.
+/// Whether no check refuses a pair of these fields: then it lies in one unit.
 #[inline(always)]
 fn is_ready_pair(geometry: &Geometry, compare: &EntryFields, write: &EntryFields) -> bool
-    ensures { OnTrue result ((compared written : List ℕ)
+    ensures ready { OnTrue result ((compared written : List ℕ)
         → IsReadyPair geometry.now (command_lent compare.now compared) (command_lent write.now written)) }
+    ensures inside { OnTrue result (LiesInUnit geometry.now compare.now.slba (compare.now.nlb + 1)) }
 {
     let blocks = u32::from(compare.nlb) + 1;
     compare.op == Op::Compare

@@ -1,15 +1,18 @@
-ghost use Rattle.std.specs.Prelude.{◌≤◌, length};
+ghost use Rattle.std.specs.Prelude.{◌≡◌, ◌+◌, ◌≤◌, length, slice_range};
+ghost use Rattle.std.specs.Option.{ForSome};
 
 use crate::payload::Payload;
 
 mod lending;
 
-/// A part of a payload, borrowed. It owns nothing until it is shared.
+/// Bytes that are lent: those of a payload, of a part of it, or of no payload. It owns nothing until it is shared.
 #[derive(Clone, Copy)]
 pub struct PayloadRef<'a> {
-    whole: &'a Payload,
+    bytes: &'a [u8],
+    /// The payload that shares them, if one does.
+    whole: Option<&'a Payload>,
+    /// Where they begin in it.
     from: usize,
-    to: usize,
-    ghost ordered: { from ≤ to },
-    ghost within: { to ≤ length whole.now },
+    ghost within: { ForSome whole (λ p. from + length bytes.now ≤ length p.now) },
+    ghost part: { ForSome whole (λ p. bytes.now ≡ slice_range p.now from (from + length bytes.now)) },
 }

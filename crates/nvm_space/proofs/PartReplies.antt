@@ -1,23 +1,35 @@
 -- What a unit reports about a part is a reply to the job's part there.
-use Rattle.std.proofs.Common.{◌≡◌, inl, inr, ℕ, List, [], ◌++◌, Bool, not, IsTrue, Option, Some, None, IsSome, Ok, Err, Result, unwrap_or, if◌then◌else◌, length, refl, sym, ap, ◌∙◌, subst, append-nil}
+use Rattle.std.proofs.Common.{◌≡◌, inl, inr, ℕ, List, [], ◌++◌, Bool, true, false, not, IsTrue, Option, Some, None, IsSome, Ok, Err, Result, unwrap_or, if◌then◌else◌, length, refl, sym, ap, ◌∙◌, subst, append-nil}
 use Rattle.nvm_record.specs.declared.status.Statuses.{Statuses}
 use Rattle.nvm_record.specs.declared.status.Statuses.TheVariants.{One, Two}
 use Rattle.nvm_record.specs.Deeds.{is_look, is_pair, IsAct, IsLook, IsFailedPair}
-use Rattle.nvm_record.specs.Medium.{Medium}
-use Rattle.nvm_record.specs.Status.{successful_completion, internal_error}
-use Rattle.nvm_record.specs.Step.{Deed, Operation, statuses_of, data_of}
+use Rattle.nvm_record.specs.declared.block.Block.{Block}
+use Rattle.nvm_record.specs.declared.status.Status.{Status}
+use Rattle.nvm_record.specs.Medium.{Medium, has_mark, joined}
+use Rattle.nvm_record.specs.Status.{successful_completion, internal_error, unrecovered_read_error}
+use Rattle.nvm_record.specs.Step.{Deed, Operation, writes, zeroes, uncorrectable, reads, compares, pairs, deallocates, range_of, statuses_on, statuses_of, data_on, data_of}
+use Rattle.nvm_store.specs.Answer.{IsAnswer, read_by, told_by}
+use Rattle.nvm_store.specs.declared.look.answer.Answer.{Answer}
+use Rattle.nvm_store.specs.declared.look.answer.Answer.TheVariants as answer
+use Rattle.nvm_store.specs.declared.look.answer.Answer.TheVariants.{Payload}
 use Rattle.nvm_geometry.specs.Namespace.{Namespace}
 use Rattle.nvm_geometry.specs.Parts.{part_in}
 use Rattle.nvm_plan.specs.declared.part.Part.{Part}
 use Rattle.nvm_plan.specs.declared.part.PartResult.TheVariants as result
+use Rattle.nvm_plan.specs.Completions.{body_completions, data_in}
+use Rattle.nvm_plan.specs.Shape.{IsForEach, IsTwoStatuses}
+use Rattle.nvm_plan.specs.declared.job.Body.{Body}
+use Rattle.nvm_plan.specs.declared.job.Body.TheVariants.{Pair, Single}
 use Rattle.nvm_plan.specs.Reply.{Reply, reply_on, reply_of_stop, stop_of, IsReplyTo}
 use Rattle.nvm_unit.specs.declared.replies.Changed.{Changed}
 use Rattle.nvm_unit.specs.declared.replies.Changed.TheVariants.{Done, Failed, NoMemory, Full}
 use Rattle.nvm_unit.specs.declared.replies.Observed.{Observed}
+use Rattle.nvm_unit.specs.declared.replies.ObservedStatus.{ObservedStatus}
 use Rattle.nvm_unit.specs.declared.replies.ObserveFault.{ObserveFault}
 use Rattle.nvm_unit.specs.declared.replies.ObserveFault.TheVariants as observe_fault
 use Rattle.nvm_unit.specs.declared.views.PassView.{PassView}
-use Rattle.nvm_unit.specs.Replies.{AnswersChange, AnswersLook, Makes, Observes}
+use Rattle.nvm_unit.specs.Replies.{AnswersChange, AnswersLook, Makes, Observes, ObservesInto, medium_at}
+use Rattle.nvm_space.specs.Inside.Parts.{DoesPartInto}
 use Rattle.nvm_space.specs.Trace.{PartDone, DoesPart, part_ended, reply_of_change, reply_of_look}
 use Rattle.nvm_space.proofs.DeedLemmas.{act_reads_none, look_is_no_pair, none_there}
 
@@ -154,3 +166,94 @@ looks_at_part number unit part look answer reply p q is looks seen told =
     let here : unit ≡ reply.part.unit = sym (ap (λ (r : Reply). r.part.unit) told ∙ look_unit unit look.deed answer) in
     subst (λ (o : Operation). DoesPart (let did : PartDone = record { job = number; operation = o; reply = reply } in did) p q) (sym is)
     (inr (looks, answer, seen, told ∙ ap (λ (u : ℕ). reply_of_look u look.deed answer) here))
+
+change_read : (unit : ℕ) (deed : Deed) (changed : Changed) → (reply_of_change unit deed changed).payload ≡ None
+change_read unit deed (Done point) = refl
+change_read unit deed (Failed point statuses) = refl
+change_read unit deed (NoMemory point) = refl
+change_read unit deed (Full point) = refl
+
+-- A change reads nothing into a buffer.
+pub changes_into : (number unit : ℕ) (part act : Operation) (changed : Changed) (reply : Reply) (buffer : List ℕ) (p q : PassView) → part ≡ act → IsAct act.deed
+    → Makes changed p number act q → reply ≡ reply_of_change unit act.deed changed → DoesPartInto number unit part reply.statuses buffer buffer p q
+changes_into number unit part act changed reply buffer p q is acts makes told = record {
+  reply = reply;
+  here = ap (λ (r : Reply). r.part.unit) told ∙ change_unit unit act.deed changed;
+  told = refl;
+  read = sym (ap (λ (r : Reply). unwrap_or r.payload buffer) told ∙ ap (λ (r : Option (List ℕ)). unwrap_or r buffer) (change_read unit act.deed changed));
+  does = changes_part number unit part act changed reply p q is acts makes told;
+}
+
+read_success : (marked : Bool) (all bytes : List ℕ) → (if marked then None else Some all) ≡ Some bytes
+    → One (if marked then unrecovered_read_error else successful_completion) ≡ One successful_completion
+read_success true all bytes some = absurd (cc some)
+read_success false all bytes some = refl
+
+-- data comes with success
+on_success : (blocks : List Block) (deed : Deed) (bytes : List ℕ) → data_on blocks deed ≡ Some bytes → statuses_on blocks deed ≡ One successful_completion
+on_success blocks (writes payload) bytes some = absurd (cc some)
+on_success blocks zeroes bytes some = absurd (cc some)
+on_success blocks uncorrectable bytes some = absurd (cc some)
+on_success blocks reads bytes some = read_success (has_mark blocks) (joined blocks) bytes some
+on_success blocks (compares payload) bytes some = absurd (cc some)
+on_success blocks (pairs payload new) bytes some = absurd (cc some)
+on_success blocks (deallocates ranges) bytes some = absurd (cc some)
+
+-- what an answer into a buffer is as one that holds its data
+abbrev answer_with : Option (List ℕ) → Status → Answer
+answer_with (Some bytes) status = Payload bytes
+answer_with None status = answer.Status status
+
+is_answer : (op : Operation) (m : Medium) (status : Status) (read : Option (List ℕ)) → data_of op m ≡ read → One status ≡ statuses_of op m → IsAnswer op m (answer_with read status)
+is_answer op m status (Some bytes) is told = (sym (on_success (range_of op m) op.deed bytes is), sym is)
+is_answer op m status None is told = (told, sym is)
+
+told_with : (read : Option (List ℕ)) (op : Operation) (m : Medium) (status : Status) → data_of op m ≡ read → One status ≡ statuses_of op m → One status ≡ told_by (answer_with read status)
+told_with (Some bytes) op m status is told = told ∙ on_success (range_of op m) op.deed bytes is
+told_with None op m status is told = refl
+
+read_with : (read : Option (List ℕ)) (status : Status) → read ≡ read_by (answer_with read status)
+read_with (Some bytes) status = refl
+read_with None status = refl
+
+-- What a look reads takes the buffer's place.
+pub looks_into : (number unit : ℕ) (part look : Operation) (observed : ObservedStatus) (old new : List ℕ) (p q : PassView) → part ≡ look → IsLook look.deed
+    → ObservesInto observed old new p look q → DoesPartInto number unit part (One observed.status) old new p q
+looks_into number unit part look observed old new p q is looks seen =
+    let m = medium_at p.bounds seen.0 in
+    let into = seen.3 in
+    let read = data_of look m in
+    let answer : Observed = record { point = observed.point; answer = answer_with read observed.status } in
+    let told : Reply = record { part = part_ended unit observed.point result.Looked; statuses = One observed.status; payload = read } in
+    record {
+      reply = told;
+      here = refl;
+      told = refl;
+      read = into.read;
+      does = looks_at_part number unit part look (Ok answer) told p q is looks (seen.0, seen.1, (seen.2, is_answer look m observed.status read refl into.told), seen.4)
+          (ap (λ (s : Statuses). (let r : Reply = record { part = part_ended unit observed.point result.Looked; statuses = s; payload = read } in r)) (told_with read look m observed.status refl into.told)
+          ∙ ap (λ (d : Option (List ℕ)). (let r : Reply = record { part = part_ended unit observed.point result.Looked; statuses = told_by answer.answer; payload = d } in r)) (read_with read observed.status));
+    }
+
+one_told : (answer : Answer) → IsTwoStatuses (told_by answer) → ⊥
+one_told (Payload bytes) two = two
+one_told (answer.Status status) two = two
+
+look_tells_one : (unit : ℕ) (deed : Deed) (answer : Result Observed ObserveFault) → IsLook deed → IsTwoStatuses (reply_of_look unit deed answer).statuses → ⊥
+look_tells_one unit deed (Ok observed) looks two = one_told observed.answer two
+look_tells_one unit deed (Err (observe_fault.NoMemory point)) looks two =
+    subst (λ (b : Bool). IsTwoStatuses (if b then Two successful_completion internal_error else One internal_error)) (look_is_no_pair deed looks) two
+
+-- What is reported by two statuses read nothing.
+pub two_read_none : (job : ℕ) (part : Operation) (reply : Reply) (p q : PassView) → IsTwoStatuses reply.statuses
+    → DoesPart (let did : PartDone = record { job = job; operation = part; reply = reply } in did) p q → reply.payload ≡ None
+two_read_none job part reply p q two (inl changes) =
+    ap (λ (r : Reply). r.payload) changes.3 ∙ change_read reply.part.unit part.deed changes.1
+two_read_none job part reply p q two (inr looks) =
+    absurd (look_tells_one reply.part.unit part.deed looks.1 looks.0 (subst (λ (r : Reply). IsTwoStatuses r.statuses) looks.3 two))
+
+-- So what a part read is what its job's completions have of data.
+pub data_alike : (host : ℕ) (body : Body) (statuses : Statuses) (read : Option (List ℕ)) (old : List ℕ) → IsForEach body statuses → (IsTwoStatuses statuses → read ≡ None)
+    → unwrap_or read old ≡ unwrap_or (data_in (body_completions host body statuses read)) old
+data_alike host (Single c) statuses read old each none = refl
+data_alike host (Pair c d) statuses read old each none = ap (λ (r : Option (List ℕ)). unwrap_or r old) (none each)

@@ -1,7 +1,8 @@
 -- What became of a job that was to be done at once (own).
-use Rattle.std.specs.Prelude.{◌≡◌, ℕ, false, List, []}
+use Rattle.std.specs.Prelude.{◌≡◌, ℕ, false, List, [], Option, unwrap_or}
+use Rattle.nvm_record.specs.declared.status.Statuses.{Statuses}
 use Rattle.nvm_geometry.specs.Namespace.{Namespace}
-use Rattle.nvm_plan.specs.Completions.{completions_of}
+use Rattle.nvm_plan.specs.Completions.{completions_of, data_in}
 use Rattle.nvm_plan.specs.Shape.{IsForEach}
 use Rattle.nvm_plan.specs.declared.job.Job.{Job}
 use Rattle.nvm_unit.specs.declared.views.PassView.{PassView}
@@ -11,10 +12,16 @@ use Rattle.nvm_space.specs.declared.job_done.JobDone.{JobDone}
 use Rattle.nvm_space.specs.declared.lent.AtOnce.{AtOnce}
 use Rattle.nvm_space.specs.declared.lent.AtOnce.TheVariants.{Done, Pending, Apart}
 
--- Since `start` the job of this number was done, and reported so; or it is under way; or nothing was done. No part is listed.
-abbrev pub IsAtOnce : Namespace → ℕ → Job → List PassView → List PassView → AtOnce → Type 0
-IsAtOnce ns number job start now (Done statuses payload) =
-    IsForEach job.body statuses
-    × ((done : JobDone) → done.completions ≡ completions_of job statuses payload → done.parts.items ≡ [] → DoesJob ns false number job start now done)
-IsAtOnce ns number job start now (Pending w) = (w.number ≡ number) × IsUnderWay ns false job w start now
-IsAtOnce ns number job start now Apart = now ≡ start
+-- Since `start` the job of this number was done, and reported with these statuses and with this data, if it is a Read's. That took the
+-- buffer's place. No part is listed.
+pub record IsDoneAtOnce (ns : Namespace) (number : ℕ) (job : Job) (start now : List PassView) (old new : List ℕ) (statuses : Statuses) : Type 0 where
+  pub each : IsForEach job.body statuses
+  pub read : Option (List ℕ)
+  pub buffer : new ≡ unwrap_or (data_in (completions_of job statuses read)) old
+  pub does : (done : JobDone) → done.completions ≡ completions_of job statuses read → done.parts.items ≡ [] → DoesJob ns false number job start now done
+
+-- It was done; or it is under way; or nothing was done.
+abbrev pub IsAtOnce : Namespace → ℕ → Job → List PassView → List PassView → List ℕ → List ℕ → AtOnce → Type 0
+IsAtOnce ns number job start now old new (Done statuses) = IsDoneAtOnce ns number job start now old new statuses
+IsAtOnce ns number job start now old new (Pending w) = (new ≡ old) × (w.number ≡ number) × IsUnderWay ns false job w start now
+IsAtOnce ns number job start now old new Apart = (new ≡ old) × (now ≡ start)

@@ -239,7 +239,7 @@ fn do_part<R: Wait, G: Gate, K: Kept>(
 
 /// Does the part of a job in a unit, unless the unit is held: then it is `None`.
 #[inline(always)]
-pub(crate) fn poll_part<G: Gate, K: Kept>(
+fn poll_part<G: Gate, K: Kept>(
     alloc: Global,
     unit: &Unit<K>,
     pass: &mut Pass<K>,

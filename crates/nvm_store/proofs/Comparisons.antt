@@ -1,5 +1,5 @@
 -- Comparisons of blocks with data, and pairs, which rest on one.
-use Rattle.std.proofs.Common.{◌≡◌, ◌≢◌, ℕ, suc, ◌*◌, List, [], ◌∷◌, length, Bool, true, false, cond, refl, sym, ap, ◌∙◌, arith}
+use Rattle.std.proofs.Common.{◌≡◌, ◌≢◌, ℕ, suc, ◌*◌, ◌-◌, List, [], ◌∷◌, length, Bool, true, false, cond, refl, sym, ap, ◌∙◌, arith}
 use Rattle.std.proofs.lemmas.Bool.{true≢false}
 use Rattle.std.proofs.lemmas.List.{length-append}
 use Rattle.std.specs.Str.{bytes_eq}
@@ -12,7 +12,10 @@ use Rattle.nvm_record.specs.Status.{IsSuccess, successful_completion, unrecovere
 use Rattle.nvm_record.specs.Step.{Deed, writes, zeroes, uncorrectable, reads, compares, pairs, deallocates, compares_equal, comparison, statuses_on, statuses_of, medium_after}
 use Rattle.nvm_store.specs.Operation.{write_operation, pair_operation}
 use Rattle.nvm_record.specs.Deeds.{FailsOn}
-use Rattle.nvm_store.specs.Inside.Sound.{AreOfSize}
+use Rattle.nvm_store.specs.Contents.{Contents, place_of}
+use Rattle.nvm_store.specs.Place.{IsWithin}
+use Rattle.nvm_store.specs.Inside.Sound.{AreOfSize, blocks_at}
+use Rattle.nvm_store.proofs.Ranges.{part_length, part_sized}
 
 -- Blocks without a mark, each of its size, are together that many bytes.
 pub length-joined : (size : ℕ) (blocks : List Block) → AreOfSize size blocks → has_mark blocks ≡ false
@@ -23,6 +26,13 @@ length-joined size (Bytes bytes ∷ bs) sized none =
     let here : length bytes ≡ size = sized 0 (Bytes bytes) refl in
     let rest : length (joined bs) ≡ length bs * size = length-joined size bs (λ i block at. sized (suc i) block at) none in
     length-append bytes (joined bs) ∙ grind (arith, here, rest)
+
+-- the same of some blocks of a unit
+pub bytes_length : (unit : Contents) (first n : ℕ) → AreOfSize unit.size unit.blocks → IsWithin (place_of unit) first n
+    → has_mark (blocks_at unit first n) ≡ false → length (joined (blocks_at unit first n)) ≡ n * unit.size
+bytes_length unit first n sized within none =
+    length-joined unit.size (blocks_at unit first n) (part_sized unit.size unit.blocks (first - unit.first) n sized) none
+    ∙ ap (λ (k : ℕ). k * unit.size) (part_length unit first n within)
 
 -- A comparison that ends with success holds.
 holds_where_successful : (mark same : Bool)

@@ -17,7 +17,7 @@ use Rattle.nvm_record.specs.Step.{block_at}
 use Rattle.nvm_store.specs.Inside.Own.{cut, kept_bytes, with_bytes}
 use Rattle.nvm_store.specs.Inside.Rewrite.{IsRewritten, stretch_of, zero_block}
 use Rattle.nvm_store.specs.Inside.Sound.{AreOfSize}
-use Rattle.nvm_store.proofs.Data.{tells_other}
+use Rattle.nvm_store.proofs.Data.{none_left, tells_other}
 use Rattle.nvm_store.proofs.Rewrites.{at_below}
 
 pub length_cut : (n s : ℕ) (bytes : List ℕ) → length (cut n s bytes) ≡ n
@@ -333,6 +333,29 @@ within_own n s bytes blocks m is le =
     let len = length_cut n s bytes in
     let same = ap length is in
     omega (arith, le, len, same)
+
+-- The bytes of the blocks that are asked for, where all bytes are kept.
+pub asked_part : (count size : ℕ) (bytes : List ℕ) (view : List Block) (at n from len : ℕ) → cut count size (kept_bytes (count * size) bytes) ≡ view
+    → (bytes ≡ []) ⊎ (length bytes ≡ count * size) → (length bytes ≡ 0 → ⊥) → at + n ≤ length view → from ≡ at * size → len ≡ n * size
+    → take (from + len - from) (drop from bytes) ≡ joined (stretch_of at n view)
+asked_part count size bytes view at n from len is whole some range from_is len_is =
+    let within = within_own count size (kept_bytes (count * size) bytes) view (at + n) is range in
+    let just : from + len - from ≡ n * size = omega (arith, len_is) in
+    ap (λ (k : ℕ). take k (drop from bytes)) just
+    ∙ ap (λ (f : ℕ). take (n * size) (drop f bytes)) from_is
+    ∙ sym (joined_stretch at n count size bytes within)
+    ∙ ap (λ (l : List ℕ). joined (stretch_of at n (cut count size l))) (sym (all_kept (count * size) bytes whole some))
+    ∙ ap (λ (l : List Block). joined (stretch_of at n l)) is
+
+-- the same where none is
+pub asked_zeroes : (count size : ℕ) (bytes : List ℕ) (view : List Block) (at n : ℕ) → cut count size (kept_bytes (count * size) bytes) ≡ view
+    → length bytes ≡ 0 → at + n ≤ length view → replicate (n * size) 0 ≡ joined (stretch_of at n view)
+asked_zeroes count size bytes view at n is empty range =
+    let within = within_own count size (kept_bytes (count * size) bytes) view (at + n) is range in
+    sym (zeroes_part at n count size within)
+    ∙ sym (joined_stretch at n count size (replicate (count * size) 0) within)
+    ∙ ap (λ (l : List ℕ). joined (stretch_of at n (cut count size (kept_bytes (count * size) l)))) (none_left bytes empty)
+    ∙ ap (λ (l : List Block). joined (stretch_of at n l)) is
 
 -- New bytes of some of the blocks lie among all.
 pub new_within : (size n s at count from : ℕ) (new bytes : List ℕ) → AreOfSize size (cut n s bytes) → length bytes ≡ n * s → at + count ≤ n

@@ -40,3 +40,9 @@ pub joined-append : (xs ys : List Block) → joined (xs ++ ys) ≡ joined xs ++ 
 joined-append [] ys = refl
 joined-append (x ∷ xs) ys =
     ap (λ (l : List ℕ). bytes_of x ++ l) (joined-append xs ys) ∙ sym (append_assoc (bytes_of x) (joined xs) (joined ys))
+
+-- The bytes of a range are those of its stretch, and of what is after it.
+pub joined_stretches : (blocks stretch : List Block) (from left n : ℕ) → stretch_of from n blocks ≡ stretch → n ≤ left
+    → joined (stretch_of from left blocks) ≡ joined stretch ++ joined (stretch_of (from + n) (left - n) blocks)
+joined_stretches blocks stretch from left n is le =
+    ap joined (next_stretch blocks stretch from left n is le) ∙ joined-append stretch (stretch_of (from + n) (left - n) blocks)

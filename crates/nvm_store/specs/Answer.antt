@@ -1,5 +1,7 @@
 -- What a look is answered.
-use Rattle.std.specs.Prelude.{◌≡◌, ℕ, List, length, Option, Some, None}
+use Rattle.std.specs.Prelude.{◌≡◌, ℕ, ◌*◌, IsTrue, List, length, Option, Some, None, unwrap_or}
+use Rattle.nvm_record.specs.Deeds.{is_read}
+use Rattle.nvm_record.specs.declared.status.Status.{Status as StatusCode}
 use Rattle.nvm_record.specs.declared.status.Statuses.{Statuses}
 use Rattle.nvm_record.specs.declared.status.Statuses.TheVariants.{One}
 use Rattle.nvm_record.specs.Medium.{Medium}
@@ -21,6 +23,15 @@ read_by (Status status) = None
 -- The answer is that of the step on this medium.
 abbrev pub IsAnswer : Operation → Medium → Answer → Type 0
 IsAnswer op m answer = (told_by answer ≡ statuses_of op m) × (read_by answer ≡ data_of op m)
+
+-- The status is that of the step on this medium, and its data, where it has any, took a buffer's place.
+pub record IsAnswerInto (op : Operation) (m : Medium) (status : StatusCode) (old new : List ℕ) : Type 0 where
+  pub told : One status ≡ statuses_of op m
+  pub read : new ≡ unwrap_or (data_of op m) old
+
+-- The buffer has as many bytes as a Read reads, in blocks of `size`.
+abbrev pub IsRoomFor : Operation → ℕ → List ℕ → Type 0
+IsRoomFor op size buffer = IsTrue (is_read op.deed) → length buffer ≡ op.blocks * size
 
 -- The answer's data, where it has any, has `count` bytes.
 abbrev pub HasBytes : ℕ → Answer → Type 0

@@ -7,7 +7,7 @@ use crate::cut_ranges;
 use nvm_record::{NoMemory, PayloadRef};
 use std::alloc::Global;
 
-/// An [`Act`] whose data is lent: parts of payloads, which nothing shares yet.
+/// An [`Act`] whose data is lent: bytes that nothing shares yet.
 #[derive(Clone, Copy, Debug, PartialEq, Eq)]
 pub enum ActRef<'a> {
     /// See [`Act::Write`].
@@ -70,8 +70,8 @@ impl<'a> ActRef<'a> {
         }
     }
 
-    /// The same act, which shares the data. It takes no memory, and is refused only where 2^63 - 1 payloads
-    /// share the data already.
+    /// The same act, which shares the data. Data that a payload shares takes no memory, and is refused only where 2^63 - 1 payloads
+    /// share it already. Other data is copied.
     ///
     /// A Deallocate has exactly what lies of its ranges among its LBAs. Where these are some ranges in a row, and none
     /// is cut, they are shared as other data is. Else they are copied, and their room is reserved once, at its
@@ -85,7 +85,7 @@ impl<'a> ActRef<'a> {
                 blocks,
                 payload,
             } => {
-                let payload = payload.share()?;
+                let payload = payload.share(alloc)?;
                 Ok(Act::Write {
                     first,
                     blocks,
@@ -100,8 +100,8 @@ impl<'a> ActRef<'a> {
                 compare,
                 write,
             } => {
-                let compare = compare.share()?;
-                let write = write.share()?;
+                let compare = compare.share(alloc)?;
+                let write = write.share(alloc)?;
                 Ok(Act::Pair {
                     first,
                     blocks,

@@ -127,10 +127,7 @@ impl Blocks {
         ensures err { OnErr result (self.new ≡ self.old) }
     {
         match &mut self.memory {
-            Memory::Shared(blocks) => {
-                let payload = payload.share()?;
-                blocks.write(alloc, at, count, size, payload)
-            }
+            Memory::Shared(blocks) => blocks.write(alloc, at, count, size, payload),
             Memory::Own(blocks) => blocks.write(at, count, size, payload.as_slice()),
         }
     }
@@ -208,6 +205,20 @@ impl Blocks {
         match &self.memory {
             Memory::Shared(blocks) => blocks.push_bytes(at, count, bytes),
             Memory::Own(blocks) => blocks.push_bytes(at, count, bytes),
+        }
+    }
+
+    /// Puts the bytes of the `count` blocks from place `at`, one block after the other, into the buffer, which has room for exactly these.
+    /// A marked block has no bytes.
+    #[inline(always)]
+    pub fn copy_to(&self, at: usize, count: usize, buffer: &mut [u8])
+        requires range { at + count ≤ length self.now }
+        requires room { length buffer.old ≡ length (medium.joined (stretch_of at count self.now)) }
+        ensures { buffer.new ≡ medium.joined (stretch_of at count self.now) }
+    {
+        match &self.memory {
+            Memory::Shared(blocks) => blocks.copy_to(at, count, buffer),
+            Memory::Own(blocks) => blocks.copy_to(at, count, buffer),
         }
     }
 }

@@ -169,7 +169,7 @@ pub fn left_data(
         if count <= range_count(bytes) - place {
             let row = ranges.part(place * RANGE_BYTES, (place + count) * RANGE_BYTES);
             if are_left(first, blocks, bytes, row.as_slice()) {
-                return row.share();
+                return row.share(alloc);
             }
         }
     }

@@ -28,5 +28,5 @@ pub use history::{History, replay};
 pub use limit::Limit;
 pub use look::{Answer, Look};
 pub use place::Place;
-pub use step::{answer, apply, judge, judge_look};
+pub use step::{answer, answer_into, apply, judge, judge_look};
 pub use unit_blocks::UnitBlocks;

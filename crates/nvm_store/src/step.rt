@@ -1,11 +1,11 @@
-ghost use Rattle.std.specs.Prelude.{◌≡◌, ◌*◌, IfOk, IsSome, IsTrue, OnErr};
+ghost use Rattle.std.specs.Prelude.{◌≡◌, ◌*◌, IfOk, IsSome, IsTrue, OnErr, length};
 ghost use Rattle.nvm_record.specs.declared.status.Statuses.TheVariants.{One};
 ghost use Rattle.nvm_record.specs.Deeds.{is_read};
 ghost use Rattle.nvm_record.specs.Medium.{Medium};
 ghost use Rattle.nvm_record.specs.Step.{statuses_of, data_of, medium_after};
 ghost use Rattle.nvm_store.specs.ActRef.{lent_operation_of};
 ghost use Rattle.nvm_store.specs.Look.{look_operation_of};
-ghost use Rattle.nvm_store.specs.Answer.{IsAnswer, HasBytes};
+ghost use Rattle.nvm_store.specs.Answer.{IsAnswer, IsAnswerInto, IsRoomFor, HasBytes};
 ghost use Rattle.nvm_store.specs.Contents.{Holds, Covers, Succeeds, StaysInPlace, place_of};
 ghost use Rattle.nvm_store.specs.Operation.{read_operation};
 ghost use Rattle.nvm_store.specs.Place.{IsWithin};
@@ -114,4 +114,38 @@ fn read(alloc: Global, unit: &UnitBlocks, first: u64, blocks: u32) -> Result<Ans
     }
     let bytes = unit.bytes(alloc, first, blocks)?;
     Ok(Answer::Payload(ReadData::new(bytes)))
+}
+
+/// What the look is answered on these blocks: its status. With 0/00 a Read's data is in the buffer, which has its length. Else the buffer is as
+/// it was. It takes no memory.
+#[inline(always)]
+pub fn answer_into(unit: &UnitBlocks, look: Look<'_>, buffer: &mut [u8]) -> Status
+    requires covered { Covers unit.now (look_operation_of look) }
+    requires room { IsRoomFor (look_operation_of look) unit.now.size buffer.old }
+    ensures { (m : Medium) → Holds unit.now m
+        → IsAnswerInto (look_operation_of look.entry) m result buffer.old buffer.new }
+{
+    match look {
+        Look::Read { first, blocks } => read_into(unit, first, blocks, buffer),
+        Look::Compare {
+            first,
+            blocks,
+            payload,
+        } => compare_range(unit, first, blocks, payload),
+    }
+}
+
+/// The status of a Read of the `blocks` LBAs from `first`, whose data goes into the buffer.
+#[inline(always)]
+fn read_into(unit: &UnitBlocks, first: u64, blocks: u32, buffer: &mut [u8]) -> Status
+    requires range { IsWithin (place_of unit.now) first blocks }
+    requires room { length buffer.old ≡ blocks * unit.now.size }
+    ensures { (m : Medium) → Holds unit.now m
+        → IsAnswerInto (read_operation first blocks) m result buffer.old buffer.new }
+{
+    if unit.has_mark(first, blocks) {
+        return Status::UNRECOVERED_READ_ERROR;
+    }
+    unit.copy_to(first, blocks, buffer);
+    Status::SUCCESSFUL_COMPLETION
 }

@@ -313,4 +313,16 @@ impl UnitBlocks {
         self.blocks.push_bytes(at, blocks, &mut bytes)?;
         Ok(bytes)
     }
+
+    /// Puts the bytes of the `blocks` LBAs from `first` into the buffer, which has room for exactly these. It takes no memory.
+    #[inline(always)]
+    pub(crate) fn copy_to(&self, first: u64, blocks: u32, buffer: &mut [u8])
+        requires range { IsWithin (place_of self.now) first blocks }
+        requires unmarked { medium.has_mark (blocks_at self.now first blocks) ≡ false }
+        requires room { length buffer.old ≡ blocks * self.now.size }
+        ensures { (m : Medium) → Holds self.now m → buffer.new ≡ medium.joined (range m first blocks) }
+    {
+        let at = (first - self.first) as usize;
+        self.blocks.copy_to(at, blocks as usize, buffer);
+    }
 }

@@ -4,7 +4,7 @@ use Rattle.std.specs.Prelude.{◌≡◌, ◌⊎◌, ℕ, ◌/◌, ◌%◌, ◌<�
 use Rattle.nvm_record.specs.Medium.{Medium}
 use Rattle.nvm_record.specs.Status.{IsSuccess}
 use Rattle.nvm_record.specs.Step.{Operation, statuses_of, data_of}
-use Rattle.nvm_store.specs.Answer.{IsAnswer}
+use Rattle.nvm_store.specs.Answer.{IsAnswer, IsAnswerInto}
 use Rattle.nvm_store.specs.History.{replay_of}
 use Rattle.nvm_store.specs.HistoryEntry.{HistoryEntry}
 use Rattle.nvm_record.specs.Deeds.{IsFailedPair}
@@ -13,6 +13,7 @@ use Rattle.nvm_unit.specs.declared.views.PassView.{PassView}
 use Rattle.nvm_unit.specs.declared.replies.Changed.{Changed}
 use Rattle.nvm_unit.specs.declared.replies.Changed.TheVariants.{Done, Failed, NoMemory, Full}
 use Rattle.nvm_unit.specs.declared.replies.Observed.{Observed}
+use Rattle.nvm_unit.specs.declared.replies.ObservedStatus.{ObservedStatus}
 use Rattle.nvm_unit.specs.declared.replies.ObserveFault.{ObserveFault}
 use Rattle.nvm_unit.specs.declared.replies.ObserveFault.TheVariants as observe_fault
 use Rattle.nvm_unit.specs.declared.replies.LookFault.{LookFault}
@@ -78,6 +79,13 @@ abbrev pub Observes : Result Observed ObserveFault → PassView → Operation �
 Observes answer p op q =
     (history : List HistoryEntry) × Finds (length history) p history
     × AnswersLook answer (length history) op (medium_at p.bounds history)
+    × (q ≡ shown true (length history) history p)
+
+-- What `poll_observe_into` answers, the buffer before and after it, and the pass after it.
+abbrev pub ObservesInto : ObservedStatus → List ℕ → List ℕ → PassView → Operation → PassView → Type 0
+ObservesInto observed old new p op q =
+    (history : List HistoryEntry) × Finds (length history) p history
+    × (observed.point ≡ length history) × IsAnswerInto op (medium_at p.bounds history) observed.status old new
     × (q ≡ shown true (length history) history p)
 
 -- The pass was brought to the history that a step found, with no mark.

@@ -80,6 +80,7 @@ impl<K: Kept> Book<K> {
 
     /// Replaces a pass's snapshot by one of this book, unless it is that already. The old one is handed out, so that
     /// the caller can free its blocks once the unit is given back. It takes no memory.
+    #[inline(always)]
     pub fn renew(&self, snapshot: &mut Snapshot, versions: bool) -> Option<Snapshot>
         requires seen { snapshot.old.entries ≡ length self.now.history → IsSnapshotOf snapshot.old self.now }
         requires kept { is_some snapshot.old.version ≡ true → versions ≡ true }
@@ -94,6 +95,19 @@ impl<K: Kept> Book<K> {
             return None;
         }
         Some(mem::replace(snapshot, self.snapshot(versions)))
+    }
+
+    /// Makes it a snapshot of this book. One that has no version and wants none moves to another point, and nothing is freed. It takes no memory.
+    #[inline(always)]
+    pub fn show(&self, snapshot: &mut Snapshot, versions: bool)
+        ensures shown { IsSnapshotOf snapshot.new self.now }
+        ensures kept { is_some snapshot.new.version ≡ true → versions ≡ true }
+    {
+        if versions || snapshot.keeps() {
+            *snapshot = self.snapshot(versions);
+        } else {
+            snapshot.set_entries(self.kept.entries());
+        }
     }
 
     /// This book, as a pass keeps it. It takes no memory.

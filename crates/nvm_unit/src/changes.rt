@@ -151,7 +151,7 @@ impl<K: Kept> Unit<K> {
         let book = parts.token.book_mut(&self.latch.desk);
         let changed = attempt(alloc, book, self.bounds.limit, parts.number, job, act);
         gate.before_put(self.number, job);
-        parts.snapshot = book.snapshot(self.versions);
+        book.show(&mut parts.snapshot, self.versions);
         let entries = book.entries();
         steps::put::<K, Always>(&self.latch.desk, &mut parts.token, entries);
         changed

@@ -15,7 +15,8 @@ pub trait Kept: Drop {
     fn nothing(alloc: Global) -> Self
         ensures { told result ≡ [] };
 
-    /// Whether it keeps acts, which share their data with the blocks that they wrote. No clause hangs on it: only where a unit's blocks are.
+    /// Whether it keeps acts, which share their data with the blocks that they wrote where a payload shares it. No clause hangs on it: only where a
+    /// unit's blocks are.
     fn keeps_acts() -> bool;
 
     /// The number of entries.

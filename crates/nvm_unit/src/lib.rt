@@ -7,7 +7,7 @@
 //! [`Unit::unrecorded`] gives one that keeps the number of its entries alone, with the same contracts.
 //!
 //! Those two wait for a unit that another pass has. [`Unit::try_change`] and [`Unit::look`] never do, nor do
-//! [`Unit::poll_change`] and [`Unit::poll_observe`], which are called again until the unit was free.
+//! [`Unit::poll_change`], [`Unit::poll_observe`] and [`Unit::poll_observe_into`], which are called again until the unit was free.
 //!
 //! A unit has one word: twice the number of entries, and one more while a pass holds the unit. All steps on
 //! it are in the module `steps`, and each keeps the rule that the unit's state is one to which the seven
@@ -42,6 +42,6 @@ pub use count::Count;
 pub use gate::{Gate, Open};
 pub use kept::Kept;
 pub use pass::Pass;
-pub use replies::{Busy, Changed, LookFault, ObserveFault, Observed};
+pub use replies::{Busy, Changed, LookFault, ObserveFault, Observed, ObservedStatus};
 pub use unit::{MOST_ENTRIES, MOST_PASSES, Unit};
 pub use unit_fault::UnitFault;

@@ -1,6 +1,6 @@
 ghost use Rattle.std.specs.Prelude.{◌≡◌};
 
-use nvm_record::Statuses;
+use nvm_record::{Status, Statuses};
 use nvm_store::Answer;
 use std::alloc::AllocError;
 
@@ -38,6 +38,15 @@ impl Clone for Observed {
             answer,
         })
     }
+}
+
+/// What [`Unit::poll_observe_into`](crate::Unit::poll_observe_into) answers. With 0/00 a Read's data is in the buffer.
+#[derive(Clone, Copy, Debug, PartialEq, Eq)]
+pub struct ObservedStatus {
+    /// The number of entries on whose replay the answer rests.
+    pub point: u64,
+    /// The status.
+    pub status: Status,
 }
 
 /// Why [`Unit::observe`](crate::Unit::observe) has no answer.

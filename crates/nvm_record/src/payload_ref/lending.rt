@@ -4,6 +4,7 @@ ghost use Rattle.nvm_record.specs.PayloadRef.{lent_bytes};
 use super::PayloadRef;
 use crate::NoMemory;
 use crate::payload::Payload;
+use std::alloc::Global;
 use std::cmp::{Eq, PartialEq};
 use std::fmt;
 use std::fmt::{Debug, Formatter, Write};
@@ -39,12 +40,26 @@ impl Debug for PayloadRef<'_> {
 }
 
 impl<'a> PayloadRef<'a> {
+    /// Bytes that no payload has. A share copies them.
+    #[tactic(auto, unfolding(crate::specs::PayloadRef::lent_bytes))]
+    #[inline(always)]
+    pub fn of(bytes: &'a [u8]) -> PayloadRef<'a>
+        ensures { lent_bytes result ≡ bytes.now }
+    {
+        PayloadRef {
+            bytes,
+            whole: None,
+            from: 0,
+        }
+    }
+
     /// The bytes.
+    #[inline(always)]
     #[tactic(auto, unfolding(crate::specs::PayloadRef::lent_bytes))]
     pub fn as_slice(self) -> &'a [u8]
         ensures { result.now ≡ lent_bytes self.entry }
     {
-        &self.whole.as_slice()[self.from..self.to]
+        self.bytes
     }
 
     /// How many bytes there are.
@@ -52,52 +67,81 @@ impl<'a> PayloadRef<'a> {
     pub fn len(self) -> usize
         ensures { result ≡ length (lent_bytes self.entry) }
     {
-        self.to - self.from
+        self.bytes.len()
+    }
+
+    /// Whether a share copies nothing. No clause hangs on it: only what memory a share takes.
+    #[inline(always)]
+    pub fn is_shared(self) -> bool {
+        self.whole.is_some()
     }
 
     /// The bytes from place `from` up to place `to`, which is left out, lent. It takes no memory.
     #[tactic(auto, unfolding(crate::specs::PayloadRef::lent_bytes))]
+    #[inline(always)]
     pub fn part(self, from: usize, to: usize) -> PayloadRef<'a>
         requires ordered { from ≤ to }
         requires within { to ≤ length (lent_bytes self) }
         ensures { lent_bytes result ≡ slice_range (lent_bytes self.entry) from to }
     {
-        PayloadRef {
-            whole: self.whole,
-            from: self.from + from,
-            to: self.from + to,
+        match self.whole {
+            Some(payload) => {
+                // A length fits, so each place up to it does.
+                let _len = payload.len();
+                payload.lend_part(self.from + from, self.from + to)
+            }
+            None => PayloadRef::of(&self.bytes[from..to]),
         }
     }
 
-    /// The bytes, shared. It takes no memory, and is refused only where 2^63 - 1 payloads share them
-    /// already.
+    /// The bytes, shared. Where a payload shares them it takes no memory, and is refused only where 2^63 - 1 payloads do
+    /// already. Else they are copied.
     #[tactic(auto, unfolding(crate::specs::PayloadRef::lent_bytes))]
-    pub fn share(self) -> Result<Payload, NoMemory>
+    #[inline(always)]
+    pub fn share(self, alloc: Global) -> Result<Payload, NoMemory>
         ensures { IfOk result (λ p. p ≡ lent_bytes self.entry) }
     {
-        self.whole.part(self.from, self.to)
+        match self.whole {
+            Some(payload) => {
+                // A length fits, so each place up to it does.
+                let _len = payload.len();
+                payload.part(self.from, self.from + self.bytes.len())
+            }
+            None => Payload::copy_of(alloc, self.bytes),
+        }
     }
 }
 
 impl Payload {
     /// The bytes, lent.
+    #[inline(always)]
+    #[tactic(auto, unfolding(crate::specs::PayloadRef::lent_bytes))]
     pub fn lend(&self) -> PayloadRef<'_>
         ensures { lent_bytes result ≡ self.now }
     {
-        self.lend_part(0, self.len())
+        PayloadRef {
+            bytes: self.as_slice(),
+            whole: if self.is_shared() { Some(self) } else { None },
+            from: 0,
+        }
     }
 
     /// The bytes from place `from` up to place `to`, which is left out, lent. It takes no memory.
     #[tactic(auto, unfolding(crate::specs::PayloadRef::lent_bytes))]
+    #[inline(always)]
     pub fn lend_part(&self, from: usize, to: usize) -> PayloadRef<'_>
         requires ordered { from ≤ to }
         requires within { to ≤ length self.now }
         ensures { lent_bytes result ≡ slice_range self.now from to }
     {
+        let bytes = &self.as_slice()[from..to];
+        if !self.is_shared() {
+            return PayloadRef::of(bytes);
+        }
         PayloadRef {
-            whole: self,
+            bytes,
+            whole: Some(self),
             from,
-            to,
         }
     }
 }

@@ -17,7 +17,8 @@ use Rattle.nvm_store.specs.Limit.{IsLimit}
 use Rattle.nvm_unit.specs.Passes.{UnitName}
 use Rattle.nvm_space.specs.declared.job_done.JobDone.{JobDone}
 use Rattle.nvm_space.specs.declared.replies.PartReply.{PartReply}
-use Rattle.nvm_space.specs.Trace.{PartDone, part_ended}
+use Rattle.nvm_unit.specs.declared.views.PassView.{PassView}
+use Rattle.nvm_space.specs.Trace.{DoesPart, PartDone, part_ended}
 
 -- These are the units of the namespace, each at the place of its number. Where parts are listed, each
 -- unit's limit is one that a record can have.
@@ -32,6 +33,14 @@ reply_told r = record { part = part_ended r.unit r.point r.result; statuses = r.
 
 abbrev pub part_done : ℕ → Operation → Reply → PartDone
 part_done number op reply = record { job = number; operation = op; reply = reply }
+
+-- The part was done in the unit, these statuses are reported, and the data, if there is some, took the buffer's place.
+pub record DoesPartInto (number unit : ℕ) (op : Operation) (statuses : Statuses) (old new : List ℕ) (p q : PassView) : Type 0 where
+  pub reply : Reply
+  pub here : reply.part.unit ≡ unit
+  pub told : reply.statuses ≡ statuses
+  pub read : new ≡ unwrap_or reply.payload old
+  pub does : DoesPart (part_done number op reply) p q
 
 -- what is reported about a job that ended with these statuses, this data and these parts
 abbrev pub job_ended : Job → Statuses → Option (List ℕ) → List Part → JobDone → Type 0

@@ -2,6 +2,7 @@
 use Rattle.std.specs.Prelude.{◌≡◌, ◌⊎◌, ℕ, ◌+◌, ◌*◌, ◌<◌, ◌≤◌, Bool, true, false, List, length}
 use Rattle.nvm_record.specs.declared.block.Block.{Block}
 use Rattle.nvm_record.specs.declared.block.Block.TheVariants.{Uncorrectable}
+use Rattle.nvm_record.specs.PayloadRef.{lent_bytes}
 use Rattle.nvm_record.specs.Step.{block_at}
 use Rattle.nvm_store.specs.Inside.Rewrite.{IsRewritten, zero_block}
 use Rattle.nvm_store.specs.declared.blocks.source.Source.{Source}
@@ -9,7 +10,7 @@ use Rattle.nvm_store.specs.declared.blocks.source.Source.TheVariants.{Data, Zero
 
 -- the i-th of them
 abbrev pub source_block : Source → ℕ → Block
-source_block (Data size payload) i = block_at size payload i
+source_block (Data size payload) i = block_at size (lent_bytes payload) i
 source_block (Zeroes size) i = zero_block size
 source_block Marks i = Uncorrectable
 
@@ -21,7 +22,7 @@ has_data Marks = false
 
 -- There are at least `count` blocks.
 abbrev pub HasBlocks : Source → ℕ → Type 0
-HasBlocks (Data size payload) count = count * size ≤ length payload
+HasBlocks (Data size payload) count = count * size ≤ length (lent_bytes payload)
 HasBlocks (Zeroes size) count = Unit {0}
 HasBlocks Marks count = Unit {0}
 

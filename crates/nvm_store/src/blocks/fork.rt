@@ -58,10 +58,10 @@ impl<T: Tree> Tree for Fork<T> {
         kid.stretch(at % self.span)
     }
 
-    fn set(&mut self, alloc: Global, at: usize, block: StoredBlock) -> Result<(), NoMemory> {
+    fn set(&mut self, alloc: Global, at: usize, source: &Source<'_>) -> Result<(), NoMemory> {
         let place = at / self.span;
         let within = at % self.span;
-        set_in(&mut self.kids[place], alloc, within, block)
+        set_in(&mut self.kids[place], alloc, within, source)
     }
 
     fn fill(
@@ -71,7 +71,7 @@ impl<T: Tree> Tree for Fork<T> {
         from: usize,
         to: usize,
         least: usize,
-        source: &Source,
+        source: &Source<'_>,
     ) -> Result<usize, NoMemory> {
         let place = at / self.span;
         let within = at % self.span;
@@ -104,7 +104,7 @@ impl<T: Tree> Tree for Fork<T> {
         from: usize,
         to: usize,
         least: usize,
-        source: &Source,
+        source: &Source<'_>,
     ) -> Result<(Fork<T>, usize), NoMemory> {
         let mut other = self.copy(alloc)?;
         let count = other.fill(alloc, at, from, to, least, source)?;

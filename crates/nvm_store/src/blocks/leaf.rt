@@ -54,9 +54,8 @@ impl Tree for Leaf {
         &self.kept[at..]
     }
 
-    fn set(&mut self, _alloc: Global, at: usize, block: StoredBlock) -> Result<(), NoMemory> {
-        self.kept[at].put(block);
-        Ok(())
+    fn set(&mut self, alloc: Global, at: usize, source: &Source<'_>) -> Result<(), NoMemory> {
+        self.kept[at].put_first(alloc, source)
     }
 
     fn fill(
@@ -66,7 +65,7 @@ impl Tree for Leaf {
         from: usize,
         to: usize,
         least: usize,
-        source: &Source,
+        source: &Source<'_>,
     ) -> Result<usize, NoMemory> {
         if source.has_data() {
             let (other, count) = self.filled(alloc, at, from, to, least, source)?;
@@ -99,7 +98,7 @@ impl Tree for Leaf {
         from: usize,
         to: usize,
         least: usize,
-        source: &Source,
+        source: &Source<'_>,
     ) -> Result<(Leaf, usize), NoMemory> {
         let count = (self.kept.len() - at).min(to - from);
         if count < least {
@@ -108,7 +107,7 @@ impl Tree for Leaf {
         let mut copies = Vec::with_capacity(alloc, self.kept.len())?;
         for (place, block) in self.kept.iter().enumerate() {
             let next = if place >= at && place - at < count {
-                source.block(from + (place - at))?
+                source.block(alloc, from + (place - at))?
             } else {
                 block.share()?
             };

@@ -1,7 +1,7 @@
 ghost use Rattle.std.specs.Prelude.{◌≡◌, ◌<◌, IfOk, OnErr, OnOk, length, slice_set};
 ghost use Rattle.nvm_store.specs.Inside.Rewrite.{zero_block};
 ghost use Rattle.nvm_store.specs.Inside.Levels.{AreAll, blocks_of};
-ghost use Rattle.nvm_store.specs.Inside.Source.{HasBlocks, IsFilled};
+ghost use Rattle.nvm_store.specs.Inside.Source.{HasBlocks, IsFilled, source_block};
 ghost use Rattle.nvm_store.specs.Inside.Tree.{IsStretch};
 
 use crate::blocks::fork::Fork;
@@ -78,18 +78,19 @@ impl Levels {
         }
     }
 
-    /// Puts a block at place `at`. Where memory is refused, all blocks are as they were.
+    /// Puts the source's first block at place `at`. Where memory is refused, all blocks are as they were.
     #[inline(always)]
-    pub fn set(&mut self, alloc: Global, at: usize, block: StoredBlock) -> Result<(), NoMemory>
-        requires { at < length (blocks_of self.old) }
-        ensures ok { OnOk result (blocks_of self.new ≡ slice_set (blocks_of self.old) at block) }
+    pub fn set(&mut self, alloc: Global, at: usize, source: &Source<'_>) -> Result<(), NoMemory>
+        requires range { at < length (blocks_of self.old) }
+        requires source { HasBlocks source.now 1 }
+        ensures ok { OnOk result (blocks_of self.new ≡ slice_set (blocks_of self.old) at (source_block source.now 0)) }
         ensures err { OnErr result (blocks_of self.new ≡ blocks_of self.old) }
     {
         match self {
-            Levels::One(node) => set_in(node, alloc, at, block),
-            Levels::Two(node) => set_in(node, alloc, at, block),
-            Levels::Three(node) => set_in(node, alloc, at, block),
-            Levels::Four(node) => set_in(node, alloc, at, block),
+            Levels::One(node) => set_in(node, alloc, at, source),
+            Levels::Two(node) => set_in(node, alloc, at, source),
+            Levels::Three(node) => set_in(node, alloc, at, source),
+            Levels::Four(node) => set_in(node, alloc, at, source),
         }
     }
 
@@ -103,7 +104,7 @@ impl Levels {
         from: usize,
         to: usize,
         least: usize,
-        source: &Source,
+        source: &Source<'_>,
     ) -> Result<usize, NoMemory>
         requires range { at < length (blocks_of self.old) }
         requires some { from < to }

@@ -7,8 +7,8 @@ ghost use Rattle.nvm_store.specs.Inside.Rewrite.{stretch_of, IsRewritten, zero_b
 ghost use Rattle.nvm_store.specs.Inside.Sound.{AreOfSize};
 
 use crate::blocks::shared_blocks::SharedBlocks;
-use crate::blocks::stored_block::{are_zero, push_zeroes};
-use nvm_record::{NoMemory, Payload};
+use crate::blocks::stored_block::{are_zero, push_zeroes, put_zeroes};
+use nvm_record::{NoMemory, PayloadRef};
 use std::alloc::Global;
 use std::marker::Model;
 
@@ -75,7 +75,7 @@ impl OwnBlocks {
         if self.bytes.is_empty() {
             return Ok(blocks);
         }
-        let payload = Payload::copy_of(alloc, &self.bytes)?;
+        let payload = PayloadRef::of(&self.bytes);
         blocks.write(alloc, 0, self.count, self.size, payload)?;
         Ok(blocks)
     }
@@ -157,6 +157,21 @@ impl OwnBlocks {
             return push_zeroes(len, bytes);
         }
         bytes.extend_from_slice(&self.bytes[from..from + len])
+    }
+
+    /// Puts the bytes of the `count` blocks from place `at` into the buffer, which has room for exactly these.
+    #[inline(always)]
+    pub fn copy_to(&self, at: usize, count: usize, buffer: &mut [u8])
+        requires range { at + count ≤ length self.now }
+        requires room { length buffer.old ≡ length (medium.joined (stretch_of at count self.now)) }
+        ensures { buffer.new ≡ medium.joined (stretch_of at count self.now) }
+    {
+        let (from, len) = bytes_of(self.count, self.size, at, count);
+        if self.bytes.is_empty() {
+            put_zeroes(buffer, 0, len);
+            return;
+        }
+        buffer.copy_from_slice(&self.bytes[from..from + len]);
     }
 }
 

@@ -2,6 +2,7 @@ ghost use Rattle.std.specs.Prelude.{◌≡◌, ◌+◌, ◌*◌, ◌++◌, ◌-�
 ghost use Rattle.std.specs.Str.{bytes_eq};
 ghost use Rattle.nvm_record.specs.declared.block.Block.TheVariants.{Uncorrectable};
 ghost use Rattle.nvm_record.specs.Medium as medium;
+ghost use Rattle.nvm_record.specs.PayloadRef.{lent_bytes};
 ghost use Rattle.nvm_record.specs.Step.{block_at};
 ghost use Rattle.nvm_store.specs.Inside.Rewrite.{stretch_of, IsRewritten, zero_block};
 ghost use Rattle.nvm_store.specs.Inside.Source.{source_block, HasBlocks, IsFilled};
@@ -10,7 +11,7 @@ use crate::blocks::levels::{LEAF, Levels};
 use crate::blocks::source::Source;
 use crate::blocks::stored_block::StoredBlock;
 use crate::blocks::stretches;
-use nvm_record::{NoMemory, Payload};
+use nvm_record::{NoMemory, PayloadRef};
 use std::alloc::Global;
 use std::fmt;
 use std::fmt::{Debug, Formatter, Write};
@@ -75,20 +76,30 @@ impl SharedBlocks {
         })
     }
 
-    /// The `count` blocks from place `at` take the data, in blocks of `size` bytes: one that is alone into its own memory if it can, and else as parts of the payload.
+    /// The `count` blocks from place `at` take the data, in blocks of `size` bytes. They share it, if it is shared. Else one that is alone
+    /// takes it into its own memory if it can, and several share a copy.
     pub fn write(
         &mut self,
         alloc: Global,
         at: usize,
         count: usize,
         size: usize,
-        payload: Payload,
+        payload: PayloadRef<'_>,
     ) -> Result<(), NoMemory>
         requires range { at + count ≤ length self.old }
-        requires payload { length payload ≡ count * size }
-        ensures ok { OnOk result (IsRewritten at count (block_at size payload) self.old self.new) }
+        requires payload { length (lent_bytes payload) ≡ count * size }
+        ensures ok { OnOk result (IsRewritten at count (block_at size (lent_bytes payload.entry)) self.old self.new) }
         ensures err { OnErr result (self.new ≡ self.old) }
     {
+        let copy = if count == 1 || payload.is_shared() {
+            None
+        } else {
+            Some(payload.share(alloc)?)
+        };
+        let payload = match &copy {
+            Some(copy) => copy.lend(),
+            None => payload,
+        };
         self.fill(alloc, at, count, &Source::Data { size, payload })
     }
 
@@ -181,6 +192,25 @@ impl SharedBlocks {
         Ok(())
     }
 
+    /// Puts the bytes of the `count` blocks from place `at` into the buffer, which has room for exactly these. A marked block has no bytes.
+    pub fn copy_to(&self, at: usize, count: usize, buffer: &mut [u8])
+        requires range { at + count ≤ length self.now }
+        requires room { length buffer.old ≡ length (medium.joined (stretch_of at count self.now)) }
+        ensures { buffer.new ≡ medium.joined (stretch_of at count self.now) }
+    {
+        // The number of blocks fits, so each place up to it does.
+        let _len = self.len();
+        let mut from = at;
+        let mut left = count;
+        let mut to = 0;
+        while left > 0 {
+            let stretch = self.stretch(from, left);
+            to = stretches::copy_to(stretch, buffer, to);
+            from += stretch.len();
+            left -= stretch.len();
+        }
+    }
+
     /// The stored blocks from place `from`, as far as they are in one leaf, and at most `most`.
     #[inline(always)]
     fn stretch(&self, from: usize, most: usize) -> &[StoredBlock]
@@ -195,14 +225,15 @@ impl SharedBlocks {
         &stretch[..len]
     }
 
-    /// Puts a block at place `at`.
+    /// Puts the source's first block at place `at`.
     #[inline(always)]
-    fn set(&mut self, alloc: Global, at: usize, block: StoredBlock) -> Result<(), NoMemory>
-        requires { at < length self.old }
-        ensures ok { OnOk result (self.new ≡ slice_set self.old at block) }
+    fn set(&mut self, alloc: Global, at: usize, source: &Source<'_>) -> Result<(), NoMemory>
+        requires range { at < length self.old }
+        requires source { HasBlocks source.now 1 }
+        ensures ok { OnOk result (self.new ≡ slice_set self.old at (source_block source.now 0)) }
         ensures err { OnErr result (self.new ≡ self.old) }
     {
-        self.levels.set(alloc, at, block)
+        self.levels.set(alloc, at, source)
     }
 
     /// Puts the source's blocks from place `from` up to place `to` at the places from `at` on, as far as
@@ -215,7 +246,7 @@ impl SharedBlocks {
         from: usize,
         to: usize,
         least: usize,
-        source: &Source,
+        source: &Source<'_>,
     ) -> Result<usize, NoMemory>
         requires range { at + (to - from) ≤ length self.old }
         requires some { from < to }
@@ -236,7 +267,7 @@ impl SharedBlocks {
         alloc: Global,
         at: usize,
         count: usize,
-        source: &Source,
+        source: &Source<'_>,
     ) -> Result<(), NoMemory>
         requires range { at + count ≤ length self.old }
         requires source { HasBlocks source.now count }
@@ -244,8 +275,7 @@ impl SharedBlocks {
         ensures err { OnErr result (self.new ≡ self.old) }
     {
         if count == 1 {
-            let block = source.block(0)?;
-            return self.set(alloc, at, block);
+            return self.set(alloc, at, source);
         }
         if count > 0 && count <= LEAF - at % LEAF {
             let done = self.fill_stretch(alloc, at, 0, count, count, source)?;
@@ -263,7 +293,7 @@ impl SharedBlocks {
         alloc: Global,
         at: usize,
         count: usize,
-        source: &Source,
+        source: &Source<'_>,
     ) -> Result<SharedBlocks, NoMemory>
         requires range { at + count ≤ length self.now }
         requires source { HasBlocks source.now count }

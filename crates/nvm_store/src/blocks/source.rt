@@ -2,19 +2,25 @@ ghost use Rattle.std.specs.Prelude.{◌≡◌, ◌+◌, ℕ, IfOk, false};
 ghost use Rattle.nvm_store.specs.Inside.Source.{source_block, has_data, HasBlocks};
 
 use crate::blocks::stored_block::StoredBlock;
-use nvm_record::{NoMemory, Payload};
+use nvm_record::{NoMemory, PayloadRef};
+use std::alloc::Global;
 
-/// The new blocks of a range, by their places in it: parts of a payload of this block size in bytes, zero
+/// The new blocks of a range, by their places in it: parts of data of this block size in bytes, zero
 /// bytes, or marks.
-#[derive(Drop)]
-pub enum Source {
-    Data { size: usize, payload: Payload },
-    Zeroes { size: usize },
+#[derive(Clone, Copy)]
+pub enum Source<'a> {
+    Data {
+        size: usize,
+        payload: PayloadRef<'a>,
+    },
+    Zeroes {
+        size: usize,
+    },
     Marks,
 }
 
-impl Source {
-    /// Whether its blocks share data, so that making one of them may be refused.
+impl Source<'_> {
+    /// Whether its blocks have data, so that making one of them may be refused.
     pub fn has_data(&self) -> bool
         ensures { result ≡ has_data self.now }
     {
@@ -33,9 +39,9 @@ impl Source {
         }
     }
 
-    /// The block for place `i` of the range. It takes no memory.
+    /// The block for place `i` of the range. It takes memory where nobody shares the data.
     #[inline(always)]
-    pub fn block(&self, i: usize) -> Result<StoredBlock, NoMemory>
+    pub fn block(&self, alloc: Global, i: usize) -> Result<StoredBlock, NoMemory>
         requires { HasBlocks self.now (i + 1) }
         ensures { IfOk result (λ block. block ≡ source_block self.now i) }
     {
@@ -44,7 +50,7 @@ impl Source {
                 // A length fits, so each place up to it does.
                 let _len = payload.len();
                 let from = i * *size;
-                let part = payload.part(from, from + *size)?;
+                let part = payload.part(from, from + *size).share(alloc)?;
                 Ok(StoredBlock::of_data(part))
             }
             Source::Zeroes { .. } | Source::Marks => Ok(self.plain_block()),

@@ -1,12 +1,14 @@
-ghost use Rattle.std.specs.Prelude.{◌≡◌, ◌++◌, ℕ, List, IfOk, IsTrue, OnOk, MatchOption, ◌↔◌, length, replicate};
+ghost use Rattle.std.specs.Prelude.{◌≡◌, ◌++◌, ℕ, List, IfOk, IsTrue, OnErr, OnOk, MatchOption, ◌↔◌, ◌+◌, ◌≤◌, length, replicate, take};
 ghost use Rattle.nvm_record.specs.declared.block.Block.TheVariants.{Bytes, Uncorrectable};
 ghost use Rattle.nvm_record.specs.Medium as medium;
 ghost use Rattle.nvm_record.specs.Medium.{bytes_of};
 ghost use Rattle.nvm_store.specs.Inside.Rewrite.{zero_block};
+ghost use Rattle.nvm_store.specs.Inside.Source.{HasBlocks, source_block};
 
 use crate::blocks::content::Content;
+use crate::blocks::source::Source;
 use nvm_record::{NoMemory, Payload};
-use std::alloc::AllocError;
+use std::alloc::{AllocError, Global};
 use std::marker::Model;
 
 /// A block as a leaf keeps it. Its data is a payload, which may be shared.
@@ -63,20 +65,25 @@ impl StoredBlock {
         }
     }
 
-    /// Becomes the other block. Data that nobody shares takes the other's bytes where they are as many, so that what wrote them has its
-    /// memory for itself again.
+    /// Becomes the source's first block. Data that nobody shares goes into the block's own memory, where it has as many bytes and shares
+    /// them with nobody either. Else the block takes a share of the data, or a copy; where that is refused it is as it was.
     #[inline(always)]
-    pub fn put(&mut self, block: StoredBlock)
-        ensures { self.new ≡ block }
+    pub fn put_first(&mut self, alloc: Global, source: &Source<'_>) -> Result<(), NoMemory>
+        requires { HasBlocks source.now 1 }
+        ensures ok { OnOk result (self.new ≡ source_block source.now 0) }
+        ensures err { OnErr result (self.new ≡ self.old) }
     {
-        if let Content::Data(data) = &block.content {
-            if let Content::Data(own) = &mut self.content {
-                if own.overwrite(data.as_slice()) {
-                    return;
+        if let Source::Data { size, payload } = *source {
+            if !payload.is_shared() {
+                if let Content::Data(own) = &mut self.content {
+                    if own.overwrite(payload.part(0, size).as_slice()) {
+                        return Ok(());
+                    }
                 }
             }
         }
-        *self = block;
+        *self = source.block(alloc, 0)?;
+        Ok(())
     }
 
     /// Whether the block is marked, and can't be read.
@@ -113,6 +120,42 @@ impl StoredBlock {
             Content::Marked => Ok(()),
         }
     }
+
+    /// Puts the block's bytes, none of a marked one, into the buffer from place `from` on, and answers where they end.
+    pub fn copy_to(&self, buffer: &mut [u8], from: usize) -> usize
+        requires { from + length (bytes_of self.now) ≤ length buffer.old }
+        ensures to { result ≡ from + length (bytes_of self.now) }
+        ensures put { take result buffer.new ≡ take from buffer.old ++ bytes_of self.now }
+    {
+        match &self.content {
+            Content::Zero { size } => put_zeroes(buffer, from, *size),
+            Content::Data(own) => put_bytes(buffer, from, own.as_slice()),
+            Content::Marked => from,
+        }
+    }
+}
+
+/// Puts new bytes into the buffer from place `from` on, and answers where they end.
+#[inline(always)]
+fn put_bytes(buffer: &mut [u8], from: usize, new: &[u8]) -> usize
+    requires { from + length new.now ≤ length buffer.old }
+    ensures to { result ≡ from + length new.now }
+    ensures put { take result buffer.new ≡ take from buffer.old ++ new.now }
+{
+    let to = from + new.len();
+    buffer[from..to].copy_from_slice(new);
+    to
+}
+
+/// Puts `count` zero bytes into the buffer from place `from` on, and answers where they end.
+pub fn put_zeroes(buffer: &mut [u8], from: usize, count: usize) -> usize
+    requires { from + count ≤ length buffer.old }
+    ensures to { result ≡ from + count }
+    ensures put { take result buffer.new ≡ take from buffer.old ++ replicate count 0 }
+{
+    let to = from + count;
+    buffer[from..to].fill(0);
+    to
 }
 
 /// Appends `count` zero bytes.

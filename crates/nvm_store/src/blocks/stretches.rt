@@ -1,4 +1,4 @@
-ghost use Rattle.std.specs.Prelude.{◌≡◌, ◌++◌, ℕ, List, MatchOption, OnOk};
+ghost use Rattle.std.specs.Prelude.{◌≡◌, ◌+◌, ◌++◌, ◌≤◌, ℕ, List, MatchOption, OnOk, length, take};
 ghost use Rattle.nvm_record.specs.Medium as medium;
 
 use crate::blocks::stored_block::StoredBlock;
@@ -24,6 +24,19 @@ pub fn push_bytes(blocks: &[StoredBlock], bytes: &mut Vec<u8>) -> Result<(), NoM
         block.push_bytes(bytes)?;
     }
     Ok(())
+}
+
+/// Puts the bytes of the blocks, one block after the other, into the buffer from place `from` on, and answers where they end.
+pub fn copy_to(blocks: &[StoredBlock], buffer: &mut [u8], from: usize) -> usize
+    requires { from + length (medium.joined blocks.now) ≤ length buffer.old }
+    ensures to { result ≡ from + length (medium.joined blocks.now) }
+    ensures put { take result buffer.new ≡ take from buffer.old ++ medium.joined blocks.now }
+{
+    let mut to = from;
+    for block in blocks {
+        to = block.copy_to(buffer, to);
+    }
+    to
 }
 
 /// The data after the bytes of the blocks, or `None` where it doesn't begin with them.

@@ -1,7 +1,7 @@
 ghost use Rattle.std.specs.Prelude.{◌≡◌, ◌<◌, List, length, IfOk, OnOk, OnErr, slice_set};
 ghost use Rattle.std.specs.Arc.{arc_value};
 ghost use Rattle.nvm_record.specs.declared.block.Block.{Block};
-ghost use Rattle.nvm_store.specs.Inside.Source.{HasBlocks, IsFilled};
+ghost use Rattle.nvm_store.specs.Inside.Source.{HasBlocks, IsFilled, source_block};
 ghost use Rattle.nvm_store.specs.Inside.Tree.{IsStretch};
 
 use crate::blocks::source::Source;
@@ -20,11 +20,12 @@ pub trait Tree: Drop {
         requires { at < length (blocks self.now) }
         ensures { IsStretch (blocks self.now) at result.now };
 
-    /// Puts a block at place `at`, in place where nobody shares a node on its path. A node that somebody
+    /// Puts the source's first block at place `at`, in place where nobody shares a node on its path. A node that somebody
     /// shares is copied first. Where memory is refused, all blocks are as they were.
-    fn set(&mut self, alloc: Global, at: usize, block: StoredBlock) -> Result<(), NoMemory>
-        requires { at < length (blocks self.old) }
-        ensures ok { OnOk result (blocks self.new ≡ slice_set (blocks self.old) at block) }
+    fn set(&mut self, alloc: Global, at: usize, source: &Source<'_>) -> Result<(), NoMemory>
+        requires range { at < length (blocks self.old) }
+        requires source { HasBlocks source.now 1 }
+        ensures ok { OnOk result (blocks self.new ≡ slice_set (blocks self.old) at (source_block source.now 0)) }
         ensures err { OnErr result (blocks self.new ≡ blocks self.old) };
 
     /// Puts the source's blocks from place `from` up to place `to` at the places from `at` on, as far as
@@ -38,7 +39,7 @@ pub trait Tree: Drop {
         from: usize,
         to: usize,
         least: usize,
-        source: &Source,
+        source: &Source<'_>,
     ) -> Result<usize, NoMemory>
         requires range { at < length (blocks self.old) }
         requires some { from < to }
@@ -60,7 +61,7 @@ pub trait Tree: Drop {
         from: usize,
         to: usize,
         least: usize,
-        source: &Source,
+        source: &Source<'_>,
     ) -> Result<(Self, usize), NoMemory>
         requires range { at < length (blocks self.now) }
         requires some { from < to }
@@ -70,25 +71,26 @@ pub trait Tree: Drop {
             (λ made. IsFilled source.now at from to least made.1 (blocks self.now) (blocks made.0)) };
 }
 
-/// Puts a block at place `at` of the node, in the node itself where nobody shares it, and else in a copy.
+/// Puts the source's first block at place `at` of the node, in the node itself where nobody shares it, and else in a copy.
 /// Where memory is refused, all blocks are as they were.
 #[inline(always)]
 pub fn set_in<T: Tree>(
     node: &mut Arc<T>,
     alloc: Global,
     at: usize,
-    block: StoredBlock,
+    source: &Source<'_>,
 ) -> Result<(), NoMemory>
-    requires { at < length (T.blocks (arc_value node.old)) }
+    requires range { at < length (T.blocks (arc_value node.old)) }
+    requires source { HasBlocks source.now 1 }
     ensures ok { OnOk result
-        (T.blocks (arc_value node.new) ≡ slice_set (T.blocks (arc_value node.old)) at block) }
+        (T.blocks (arc_value node.new) ≡ slice_set (T.blocks (arc_value node.old)) at (source_block source.now 0)) }
     ensures err { OnErr result (T.blocks (arc_value node.new) ≡ T.blocks (arc_value node.old)) }
 {
     match Arc::get_mut(node) {
-        Some(own) => own.set(alloc, at, block),
+        Some(own) => own.set(alloc, at, source),
         None => {
             let mut other = node.copy(alloc)?;
-            other.set(alloc, at, block)?;
+            other.set(alloc, at, source)?;
             *node = Arc::new(alloc, other)?;
             Ok(())
         }
@@ -104,7 +106,7 @@ pub fn fill_in<T: Tree>(
     from: usize,
     to: usize,
     least: usize,
-    source: &Source,
+    source: &Source<'_>,
 ) -> Result<usize, NoMemory>
     requires range { at < length (T.blocks (arc_value node.old)) }
     requires some { from < to }

@@ -1,4 +1,4 @@
-use Rattle.std.proofs.Common.{◌≡◌, ◌<◌, ◌≤◌, length, map, refl, rules, arith}
+use Rattle.std.proofs.Common.{◌<◌, ◌≤◌, length, map, refl, rules, arith}
 use Rattle.std.proofs.lemmas.List.{length-map}
 use Rattle.nvm_c.specs.Inside.Gathering.{CanHoldWork}
 use Rattle.nvm_c.proofs.Places.{all_below, at_index, at_map, none_below, one_below}

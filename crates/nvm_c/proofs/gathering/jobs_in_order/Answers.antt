@@ -1,4 +1,4 @@
-use Rattle.std.proofs.Common.{◌≡◌, ◌∙◌, ℕ, ◌+◌, ◌++◌, ◌∷◌, [], List, length, map, ap, sym, subst, rules}
+use Rattle.std.proofs.Common.{◌≡◌, ◌∙◌, ℕ, ◌+◌, ◌++◌, ◌∷◌, [], List, length, map, ap, sym, subst}
 use Rattle.std.proofs.lemmas.List.{length_push}
 use Rattle.nvm_record.specs.Lists.{IsAt}
 use Rattle.nvm_plan.specs.Fits.{FitsNamespace}

@@ -1,4 +1,4 @@
-use Rattle.std.proofs.Common.{◌<◌, ◌≤◌, length, refl, rules, arith}
+use Rattle.std.proofs.Common.{◌<◌, ◌≤◌, length, refl, rules}
 use Rattle.nvm_geometry.specs.Boundaries.{units_of}
 use Rattle.nvm_c.proofs.Places.{all_below, at_index, none_below, one_below}
 use Rattle.nvm_c.proofs.gathering.lie_in_units.Goals as goal

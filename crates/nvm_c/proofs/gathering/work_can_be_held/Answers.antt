@@ -1,4 +1,4 @@
-use Rattle.std.proofs.Common.{◌<◌, ◌≤◌, length, refl, rules, arith}
+use Rattle.std.proofs.Common.{◌<◌, ◌≤◌, length, refl, rules}
 use Rattle.nvm_audit.specs.Recordable.{most_jobs}
 use Rattle.nvm_c.specs.Inside.Gathering.{CanHold}
 use Rattle.nvm_c.proofs.Places.{all_below, at_index, none_below, one_below}

@@ -1,4 +1,4 @@
-use Rattle.std.proofs.Common.{◌≡◌, ◌∙◌, ◌<◌, Option, Some, length, ap, sym, subst, rules}
+use Rattle.std.proofs.Common.{◌∙◌, ◌<◌, Some, length, ap, sym, subst, rules}
 use Rattle.nvm_record.specs.Deeds.{IsAct}
 use Rattle.nvm_record.specs.Step.{Operation}
 use Rattle.nvm_plan.specs.LentPart.{part_operation_of}

@@ -1,9 +1,9 @@
-use Rattle.std.proofs.Common.{◌≡◌, ◌∙◌, ◌<◌, ◌+◌, ◌++◌, ◌∷◌, [], Global, Vec, List, length, map, ap, sym, subst, rules}
-use Rattle.std.proofs.lemmas.List.{map_push}
+use Rattle.std.proofs.Common.{◌≡◌, ◌∙◌, ◌<◌, ◌+◌, ◌++◌, ◌∷◌, [], Global, Vec, List, length, map, ap, sym, subst, rules, arith}
+use Rattle.std.proofs.lemmas.List.{length-map, map_push}
 use Rattle.nvm_plan.specs.declared.job.Job.{Job}
 use Rattle.nvm_audit.specs.RecordedJob.{RecordedJob}
 use Rattle.nvm_c.specs.Opening.{engines_of}
-use Rattle.nvm_c.proofs.Worked.{SoFar, one_more, refused_there, same_after, worked_there}
+use Rattle.nvm_c.proofs.Worked.{SoFar, all_worked, one_more, refused_there, same_after, worked_there}
 use Rattle.nvm_c.proofs.work.all_work.Goals as goal
 
 pub returns-in_default-clause-same : goal.returns-in_default-clause-same
@@ -44,3 +44,10 @@ loop-place-preserved c =
           (one_more ns most held jobs done place own did inv.far
           (worked_there c.loop-place.ports c.args.ports.now c.loop-place.place c.index-ports-place.result c.index-ports-place.is lt c.loop-place.invariant.same ns most own did c.in-Ok.ensures.work)));
     }
+
+pub returns-clause-work : goal.returns-clause-work
+returns-clause-work c =
+    let inv = c.loop-place.invariant in
+    let all : length (engines_of c.args.ports.now) ≡ length c.args.ports.now = length-map c.args.ports.now _ in
+    let end : c.loop-place.place ≡ length (engines_of c.args.ports.now) = omega (arith, all, c.loop-place-test.false, c.loop-place.auto.place-end) in
+    rw (inv.geometry, inv.limit) (all_worked c.args.head.now.geometry c.args.head.now.limit (engines_of c.args.ports.now) _ _ c.loop-place.place inv.far end)

@@ -1,4 +1,4 @@
-use Rattle.std.proofs.Common.{◌≡◌, ℕ, ◌+◌, ◌<◌, ◌≤◌, Some, sym, ap, subst, ◌∙◌, arith, refl}
+use Rattle.std.proofs.Common.{◌≡◌, ℕ, ◌+◌, ◌≤◌, Some, sym, ap, subst, ◌∙◌, refl}
 use Rattle.nvm_record.specs.PayloadRef.{lent_bytes}
 use Rattle.nvm_geometry.specs.Boundaries.{unit_number}
 use Rattle.nvm_geometry.specs.Limits.{LiesInUnit}
@@ -21,10 +21,8 @@ returns-clause-part c = λ job body.
     let plain_free = c.ready_jobs.ensures.unrefused ns (job_of given) its.ready in
     let has_data = c.jobs_that_fit_have_their_data.ensures ns (job_of given) op (job_of_fits ns given c.requires) plain_free its.part in
     let inside : op.first + op.blocks ≤ ns.nsze = c.ready_jobs.ensures.range ns job op free is in
-    let some : 0 < op.blocks = omega (arith, its.blocks, its.some) in
-    let lies : LiesInUnit ns op.first op.blocks =
-    subst (λ (n : ℕ). LiesInUnit ns op.first n) (sym its.blocks) (subst (λ (n : ℕ). LiesInUnit ns n c.in_ok-first.blocks) (sym its.first) c.if-crosses.ensures.one_unit) in
-    let only = one_part ns job op free is some inside lies its.deed has_data (λ o. c.parts_of_jobs.ensures.units ns job o free) (λ o unit. c.parts_of_jobs.ensures.part ns job o unit free)
+    let lies : LiesInUnit ns op.first op.blocks = subst (λ (n : ℕ). LiesInUnit ns n op.blocks) (sym its.first) its.inside in
+    let only = one_part ns job op free is its.some inside lies its.deed has_data (λ o. c.parts_of_jobs.ensures.units ns job o free) (λ o unit. c.parts_of_jobs.ensures.part ns job o unit free)
     (c.one_unit_is_one_part.ensures.unit ns) (c.one_unit_is_one_part.ensures.part ns) c.whole_ranges_are_reached.ensures.ranges in
     subst (λ (unit : ℕ). IsOnlyPart ns job unit op) (ap (unit_number ns) its.first ∙ sym c.unit_of.ensures.value) only
 

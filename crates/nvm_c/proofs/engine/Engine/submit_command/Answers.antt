@@ -1,4 +1,4 @@
-use Rattle.std.proofs.Common.{◌≡◌, ◌∙◌, ◌++◌, ℕ, ◌+◌, ◌*◌, List, IsTrue, false, length, inl, sym, ap, subst, arith}
+use Rattle.std.proofs.Common.{◌≡◌, ◌∙◌, ◌++◌, ℕ, ◌+◌, ◌*◌, Bool, List, [], IsTrue, false, if◌then◌else◌, length, slice_range, sym, ap, subst}
 use Rattle.nvm_record.specs.Entry.{IsSpelling, data_length}
 use Rattle.nvm_record.specs.Op.{carries_ranges}
 use Rattle.nvm_record.specs.declared.op.Op.{Op}
@@ -11,26 +11,10 @@ use Rattle.nvm_c.specs.Asked.{IsAsked, op_in, reads, sent_with}
 use Rattle.nvm_c.specs.Engines.{namespace_of}
 use Rattle.nvm_c.specs.Logs.{HasDrawn, kept_by}
 use Rattle.nvm_c.specs.Submitted.{Buffers}
-use Rattle.nvm_c.proofs.AtOnce.{none_drawn}
+use Rattle.nvm_c.proofs.AtOnce.{back_slice}
 use Rattle.nvm_c.proofs.Steps.{submits_of}
 use Rattle.nvm_c.proofs.engine.Engine.submit_command.Goals as goal
-
-pub submit_fields-requires-clause-whole : goal.submit_fields-requires-clause-whole
-submit_fields-requires-clause-whole c =
-    let size = (namespace_of c.args.self.now).block_size in
-    let fields = c.plain_fields-fields.result in
-    let plain : carries_ranges fields.op ≡ false = ap carries_ranges c.plain_fields-fields.ensures.op ∙ c.requires.plain in
-    let here : c.block_size-size.result ≡ size = c.block_size-size.ensures.value ∙ ap (λ (ns : Namespace). ns.block_size) c.geometry.ensures ∙ ap (λ (s : SpaceName). s.namespace.block_size) c.deref.ensures in
-    let long : length c.in-Ok.payload ≡ data_length size fields.op fields.nlb fields.nr =
-    ap length (c.in-Ok.ensures ∙ c.sent_with.ensures) ∙ c.if-not-fits_buffer.ensures.sent ∙ ap (λ (n : ℕ). data_length n fields.op fields.nlb fields.nr) here in
-    inl (c.plain_fields-fields.ensures.whole size c.in-Ok.payload plain long)
-
-pub submit_fields-requires-clause-room : goal.submit_fields-requires-clause-room
-submit_fields-requires-clause-room c = omega (arith, c.if-posted-ne16.false)
-
-pub submit_fields-requires-clause-unrecorded : goal.submit_fields-requires-clause-unrecorded
-submit_fields-requires-clause-unrecorded c =
-    none_drawn c.args.self.now.log (kept_by c.draw.new.log) c.args.self.now.number c.draw.new.next c.in-Ok-draw.number c.requires.unrecorded c.in-Ok-draw.ensures.drawn
+use Rattle.nvm_c.proofs.engine.Engine.submit_command.Goals.{else-reads, then-reads}
 
 pub returns-clause-submits : goal.returns-clause-submits
 returns-clause-submits c =
@@ -41,18 +25,25 @@ returns-clause-submits c =
     let fields = c.plain_fields-fields.result in
     let plain : carries_ranges fields.op ≡ false = ap carries_ranges c.plain_fields-fields.ensures.op ∙ c.requires.plain in
     let here : c.block_size-size.result ≡ size = c.block_size-size.ensures.value ∙ ap (λ (ns : Namespace). ns.block_size) c.geometry.ensures ∙ ap (λ (s : SpaceName). s.namespace.block_size) c.deref.ensures in
-    let sent : c.in-Ok.payload ≡ sent_with fields.op buffer = c.in-Ok.ensures ∙ c.sent_with.ensures in
-    let long : length c.in-Ok.payload ≡ data_length size fields.op fields.nlb fields.nr =
+    let payload : List ℕ = slice_range buffer 0 c.if-reads.sent in
+    let sent : payload ≡ sent_with fields.op buffer =
+    elim c.if-reads.branch [
+      | then-reads w ↦ ap (λ (n : ℕ). slice_range buffer 0 n) w.sent-is ∙ ap (λ (b : Bool). if b then [] else buffer) (sym (sym c.reads.ensures ∙ w.if-reads.true))
+      | else-reads w ↦
+          ap (λ (n : ℕ). slice_range buffer 0 n) w.sent-is ∙ back_slice buffer 0
+          ∙ ap (λ (b : Bool). if b then [] else buffer) (sym (sym c.reads.ensures ∙ w.if-reads.false))
+    ] in
+    let long : length payload ≡ data_length size fields.op fields.nlb fields.nr =
     ap length sent ∙ c.if-not-fits_buffer.ensures.sent ∙ ap (λ (n : ℕ). data_length n fields.op fields.nlb fields.nr) here in
-    let also : c.in-Ok.payload ≡ sent_with (op_in entry) buffer = sent ∙ ap (λ (op : Op). sent_with op buffer) c.plain_fields-fields.ensures.op in
-    let job : Job = record { host = c.args.host; body = Single (command_lent fields c.in-Ok.payload) } in
+    let also : payload ≡ sent_with (op_in entry) buffer = sent ∙ ap (λ (op : Op). sent_with op buffer) c.plain_fields-fields.ensures.op in
+    let job : Job = record { host = c.args.host; body = Single (command_lent fields payload) } in
     let old : Buffers = record { bytes = buffer; posted = c.args.posted.now } in
     let new : Buffers = record { bytes = c.submit_fields.new.data; posted = c.submit_fields.new.posted } in
     let asked : IsAsked size (e.port.number + 1) entry buffer job = record {
       by_host = c.requires.host;
       body = record {
         whole = c.requires.one;
-        spelled = subst (λ (bs : List ℕ). IsSpelling size (entry ++ bs) (command_lent fields c.in-Ok.payload)) also (c.plain_fields-fields.ensures.spelled size c.in-Ok.payload plain long);
+        spelled = subst (λ (bs : List ℕ). IsSpelling size (entry ++ bs) (command_lent fields payload)) also (c.plain_fields-fields.ensures.spelled size payload plain long);
         room = λ read. c.if-not-fits_buffer.ensures.read (subst (λ (op : Op). IsTrue (reads op)) (sym c.plain_fields-fields.ensures.op) read)
             ∙ (ap (λ (n : ℕ). (fields.nlb + 1) * n) here ∙ ap (λ (n : ℕ). (n + 1) * size) (c.plain_fields-fields.ensures.nlb plain));
       };
@@ -60,9 +51,9 @@ returns-clause-submits c =
     submits_of c.submit_fields.result e c.submit_fields.new.self entry old new c.requires.idle (record {
       job = job;
       asked = asked;
-      number = c.in-Ok-draw.number;
+      number = c.in-Ok.number;
       log = kept_by c.draw.new.log;
-      drawn = subst (λ (n : ℕ). HasDrawn e.number n (kept_by e.log) (kept_by c.draw.new.log) c.in-Ok-draw.number) (sym c.submit_fields.ensures.number) c.in-Ok-draw.ensures.drawn;
+      drawn = subst (λ (n : ℕ). HasDrawn e.number n (kept_by e.log) (kept_by c.draw.new.log) c.in-Ok.number) (sym c.submit_fields.ensures.number) c.in-Ok.ensures.drawn;
       progress = c.submit_fields.ensures.progress;
       space = c.submit_fields.ensures.space;
     })

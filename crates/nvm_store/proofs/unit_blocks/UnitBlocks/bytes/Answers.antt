@@ -1,8 +1,8 @@
-use Rattle.std.proofs.Common.{◌≡◌, ℕ, List, ◌++◌, ◌*◌, ◌-◌, ap, sym, length, ◌∙◌}
+use Rattle.std.proofs.Common.{◌≡◌, ℕ, List, ◌++◌, ap, sym, length, ◌∙◌}
 use Rattle.nvm_record.specs.Medium as medium
 use Rattle.nvm_store.specs.Inside.Sound.{blocks_at}
-use Rattle.nvm_store.proofs.Ranges.{range-held, unit_with, part_sized, part_length}
-use Rattle.nvm_store.proofs.Comparisons.{length-joined}
+use Rattle.nvm_store.proofs.Ranges.{range-held, unit_with}
+use Rattle.nvm_store.proofs.Comparisons.{bytes_length}
 use Rattle.nvm_store.proofs.unit_blocks.UnitBlocks.bytes.Goals as goal
 
 -- All bytes are those of the blocks.
@@ -24,9 +24,6 @@ returns-clause-len c =
     let unit = unit_with c.self.inside.first c.self.inside.size c.self.inside.blocks in
     let within = rw (← c.self.view_is) at c.requires.range in
     let none = rw (← c.self.view_is) at c.requires.unmarked in
-    let size = c.self.inside.size in
-    let at = c.args.first - c.self.inside.first in
     rw (← c.self.view_is)
     (ap length (all c)
-    ∙ length-joined size (blocks_at unit c.args.first c.args.blocks) (part_sized size c.self.inside.blocks at c.args.blocks c.self.invariant.sized) none
-    ∙ ap (λ (n : ℕ). n * size) (part_length unit c.args.first c.args.blocks within))
+    ∙ bytes_length unit c.args.first c.args.blocks c.self.invariant.sized within none)

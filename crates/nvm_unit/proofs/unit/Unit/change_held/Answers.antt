@@ -66,8 +66,8 @@ returns g c =
           record {
             table = c.put.ensures.at ∙ c.requires.at;
             bounds = ap (λ (p : PassView). p.bounds) (ap seated ends.2.0) ∙ ends.3;
-            kept = λ keeps. sym (ap (λ (unit : UnitName). unit.versions) c.self.view_is) ∙ c.snapshot.ensures.kept keeps;
+            kept = λ keeps. sym (ap (λ (unit : UnitName). unit.versions) c.self.view_is) ∙ c.show.ensures.kept keeps;
           };
-      whole = whole _ ends.0 ends.2.0 (c.requires.numbered ∙ sym ends.4) (subst (IsSnapshotOf c.snapshot.result) ends.2.2 c.snapshot.ensures.shown) ends.2.1;
+      whole = whole _ ends.0 ends.2.0 (c.requires.numbered ∙ sym ends.4) (subst (IsSnapshotOf c.show.new.snapshot) ends.2.2 c.show.ensures.shown) ends.2.1;
       made = subst (λ (q : PassView). Makes c.attempt-changed.result (seated m) c.args.job op q) (sym (ap seated ends.2.0)) ends.1;
     }

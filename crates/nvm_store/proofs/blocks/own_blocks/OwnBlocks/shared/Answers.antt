@@ -24,4 +24,4 @@ returns c =
     rw (← c.self.view_is, kept)
     (all_rewritten own.count own.size own.bytes.items c.in_ok-blocks.blocks c.write.new.self old
     (subst (λ (l : List ℕ). IsRewritten 0 own.count (block_at own.size l) c.in_ok-blocks.blocks c.write.new.self)
-    (c.in_ok-payload.ensures ∙ c.deref.ensures.value) c.in_ok-write.ensures.ok))
+    (c.of-payload.ensures ∙ c.deref.ensures.value) c.in_ok-write.ensures.ok))

@@ -11,5 +11,5 @@ returns-then-count-eq1-clause-ok c =
     on_ok_weaker c.set.result
     (λ put. rw c.if-count-eq1.true
     (rewritten_more c.args.at 0 c.args.at news old old c.set.new.self (rewritten_none c.args.at news old) (omega arith) (omega arith)
-    (rw c.in_ok-block.ensures at put)))
+    put))
     c.set.ensures.ok
