@@ -1,5 +1,5 @@
 ghost use Rattle.std.specs.Prelude.{◌≡◌, ◌↔◌, ◌≤◌, [], IsTrue, IfOk, false, length, slice_range, true};
-ghost use Rattle.std.specs.Arc.{arc_value};
+ghost use Rattle.nvm_record.specs.SharedBytes.{shared_bytes};
 
 use crate::NoMemory;
 use std::alloc::Global;
@@ -11,41 +11,28 @@ use std::sync::Arc;
 
 /// Data of a command or of blocks: bytes, which contracts see as their list.
 ///
-/// Payloads share their bytes: a share, or a part of a payload, takes no memory and copies nothing, unless the payload has its bytes for
-/// itself alone ([`Payload::own`]). Shared bytes are freed with the last payload that shares them.
+/// Payloads share their bytes: a share, or a part of a payload, takes no memory and copies nothing. The
+/// bytes are freed with the last payload that shares them.
 ///
 /// Payloads that came from one another by [`Payload::share`] and [`Payload::part`] count their owners in one
 /// word. Threads that share them all the time wait for that word, so a part can have a count of its own
 /// ([`Payload::own_part`]).
 #[derive(Drop)]
 pub struct Payload {
-    memory: Memory,
-}
-
-/// Where the bytes of a payload are.
-#[derive(Drop)]
-pub enum Memory {
-    /// There are none.
-    Nothing,
-    /// They are all of these, which nobody shares.
-    Own(Vec<u8>),
-    /// They are those from place `from` up to place `to` of what payloads share.
-    Shared {
-        whole: Arc<Arc<Vec<u8>>>,
-        from: usize,
-        to: usize,
-    },
+    whole: Option<Arc<Arc<Vec<u8>>>>,
+    from: usize,
+    to: usize,
 }
 
 impl Model for Payload {
-    ghost use Rattle.std.specs.Prelude.{List, ℕ};
-    ghost use Rattle.nvm_record.specs.SharedBytes.{IsWithin, kept_bytes};
+    ghost use Rattle.std.specs.Prelude.{List, ℕ, ◌≤◌, length, slice_range};
+    ghost use Rattle.nvm_record.specs.SharedBytes.{shared_bytes};
 
     ghost Value = { List ℕ };
 
-    ghost view = { λ p. kept_bytes p.memory };
+    ghost view = { λ p. slice_range (shared_bytes p.whole) p.from p.to };
 
-    ghost invariant = { λ p. IsWithin p.memory };
+    ghost invariant = { λ p. (p.from ≤ p.to) × (p.to ≤ length (shared_bytes p.whole)) };
 }
 
 /// Two are equal where their bytes are, shared or not.
@@ -90,16 +77,9 @@ impl Payload {
         ensures { result ≡ [] }
     {
         Payload {
-            memory: Memory::Nothing,
-        }
-    }
-
-    /// The bytes of `bytes`, which aren't copied, for this payload alone. It takes no memory, but a share or a part of it is a copy.
-    pub fn own(bytes: Vec<u8>) -> Payload
-        ensures { result ≡ bytes.items }
-    {
-        Payload {
-            memory: Memory::Own(bytes),
+            whole: None,
+            from: 0,
+            to: 0,
         }
     }
 
@@ -112,7 +92,9 @@ impl Payload {
         let bytes = Arc::new(alloc, bytes)?;
         let whole = Arc::new(alloc, bytes)?;
         Ok(Payload {
-            memory: Memory::Shared { whole, from: 0, to },
+            whole: Some(whole),
+            from: 0,
+            to,
         })
     }
 
@@ -132,32 +114,28 @@ impl Payload {
     pub fn as_slice(&self) -> &[u8]
         ensures { result.now ≡ self.now }
     {
-        match &self.memory {
-            Memory::Nothing => &[],
-            Memory::Own(bytes) => bytes.as_slice(),
-            Memory::Shared { whole, from, to } => &whole[*from..*to],
+        match &self.whole {
+            Some(whole) => &whole[self.from..self.to],
+            None => &[],
         }
     }
 
     /// The same bytes, shared. It takes no memory, and is refused only where 2^63 - 1 payloads share
-    /// them already. Bytes of its own are copied, for which memory may be refused.
+    /// them already.
     #[inline(always)]
     pub fn share(&self) -> Result<Payload, NoMemory>
         ensures { IfOk result (λ p. p ≡ self.now) }
     {
-        match &self.memory {
-            Memory::Nothing => Ok(Payload::empty()),
-            Memory::Own(bytes) => Payload::copy_of(*bytes.allocator(), bytes),
-            Memory::Shared { whole, from, to } => {
-                let whole = Arc::try_clone(whole)?;
-                Ok(shared_part(whole, *from, *to))
-            }
-        }
+        let whole = one_more_owner(&self.whole)?;
+        Ok(Payload {
+            whole,
+            from: self.from,
+            to: self.to,
+        })
     }
 
     /// The bytes from place `from` up to place `to`, shared. It takes no memory, and is refused only
-    /// where 2^63 - 1 payloads share them already. Bytes of its own are copied, for which memory may be refused. A part of no bytes
-    /// shares nothing.
+    /// where 2^63 - 1 payloads share them already. A part of no bytes shares nothing.
     #[inline(always)]
     pub fn part(&self, from: usize, to: usize) -> Result<Payload, NoMemory>
         requires ordered { from ≤ to }
@@ -167,22 +145,16 @@ impl Payload {
         if from == to {
             return Ok(Payload::empty());
         }
-        match &self.memory {
-            Memory::Nothing => Ok(Payload::empty()),
-            Memory::Own(bytes) => { Payload::copy_of(*bytes.allocator(), &bytes[from..to]) }
-            Memory::Shared {
-                whole,
-                from: at,
-                ..
-            } => {
-                let whole = Arc::try_clone(whole)?;
-                Ok(shared_part(whole, *at + from, *at + to))
-            }
-        }
+        let whole = one_more_owner(&self.whole)?;
+        Ok(Payload {
+            whole,
+            from: self.from + from,
+            to: self.from + to,
+        })
     }
 
     /// The bytes from place `from` up to place `to`, shared, with a count of owners that starts anew. It takes one
-    /// small block of memory, and is refused also where 2^63 - 1 such parts share them already. Bytes of its own are copied. A part of no
+    /// small block of memory, and is refused also where 2^63 - 1 such parts share them already. A part of no
     /// bytes shares nothing, and takes no memory.
     #[inline(always)]
     pub fn own_part(&self, alloc: Global, from: usize, to: usize) -> Result<Payload, NoMemory>
@@ -193,19 +165,12 @@ impl Payload {
         if from == to {
             return Ok(Payload::empty());
         }
-        match &self.memory {
-            Memory::Nothing => Ok(Payload::empty()),
-            Memory::Own(bytes) => Payload::copy_of(alloc, &bytes[from..to]),
-            Memory::Shared {
-                whole,
-                from: at,
-                ..
-            } => {
-                let bytes = Arc::try_clone(&**whole)?;
-                let whole = Arc::new(alloc, bytes)?;
-                Ok(shared_part(whole, *at + from, *at + to))
-            }
-        }
+        let whole = new_count(alloc, &self.whole)?;
+        Ok(Payload {
+            whole,
+            from: self.from + from,
+            to: self.from + to,
+        })
     }
 
     /// The bytes as a `Vec`: the one that holds them, where nobody shares it and they are all of it, and
@@ -213,11 +178,9 @@ impl Payload {
     pub fn into_vec(self, alloc: Global) -> Result<Vec<u8>, NoMemory>
         ensures { IfOk result (λ v. v.items ≡ self) }
     {
-        let Payload { memory } = self;
-        let (whole, from, to) = match memory {
-            Memory::Nothing => return Ok(Vec::new(alloc)),
-            Memory::Own(bytes) => return Ok(bytes),
-            Memory::Shared { whole, from, to } => (whole, from, to),
+        let Payload { whole, from, to } = self;
+        let Some(whole) = whole else {
+            return Ok(Vec::new(alloc));
         };
         if from > 0 || to < whole.len() {
             return Vec::from_slice(alloc, &whole[from..to]);
@@ -238,28 +201,20 @@ impl Payload {
         ensures taken { result ≡ true → self.new ≡ bytes.now }
         ensures left { result ≡ false → self.new ≡ self.old }
     {
-        match &mut self.memory {
-            Memory::Nothing => false,
-            Memory::Own(own) => take(own, bytes),
-            Memory::Shared { whole, from, to } => {
-                let Some(shared) = Arc::get_mut(whole) else {
-                    return false;
-                };
-                let Some(own) = Arc::get_mut(shared) else {
-                    return false;
-                };
-                if *from > 0 || *to != own.len() {
-                    return false;
-                }
-                take(own, bytes)
-            }
+        let Some(whole) = &mut self.whole else {
+            return false;
+        };
+        let Some(shared) = Arc::get_mut(whole) else {
+            return false;
+        };
+        let Some(own) = Arc::get_mut(shared) else {
+            return false;
+        };
+        if self.from > 0 || self.to != own.len() || bytes.len() != own.len() {
+            return false;
         }
-    }
-
-    /// Whether a share copies nothing. No clause hangs on it: only what memory a share takes.
-    #[inline(always)]
-    pub(crate) fn is_shared(&self) -> bool {
-        matches!(self.memory, Memory::Shared { .. })
+        own.copy_from_slice(bytes);
+        true
     }
 
     /// How many bytes there are.
@@ -267,7 +222,7 @@ impl Payload {
     pub fn len(&self) -> usize
         ensures { result ≡ length self.now }
     {
-        self.as_slice().len()
+        self.to - self.from
     }
 
     /// Whether there are none.
@@ -278,28 +233,28 @@ impl Payload {
     }
 }
 
-/// Puts new bytes in the place of all old ones, and says whether it did: where they are as many.
-#[inline(always)]
-fn take(own: &mut Vec<u8>, bytes: &[u8]) -> bool
-    ensures taken { result ≡ true → own.new.items ≡ bytes.now }
-    ensures left { result ≡ false → own.new.items ≡ own.old.items }
-    ensures len { length own.new.items ≡ length own.old.items }
+/// One more owner of what is shared, in the same count.
+fn one_more_owner(whole: &Option<Arc<Arc<Vec<u8>>>>) -> Result<Option<Arc<Arc<Vec<u8>>>>, NoMemory>
+    ensures { IfOk result (λ w. shared_bytes w ≡ shared_bytes whole.now) }
 {
-    if bytes.len() != own.len() {
-        return false;
+    match whole {
+        Some(whole) => Ok(Some(Arc::try_clone(whole)?)),
+        None => Ok(None),
     }
-    own.copy_from_slice(bytes);
-    true
 }
 
-/// The bytes from place `from` up to place `to` of what is shared.
-#[inline(always)]
-fn shared_part(whole: Arc<Arc<Vec<u8>>>, from: usize, to: usize) -> Payload
-    requires ordered { from ≤ to }
-    requires within { to ≤ length (arc_value (arc_value whole)).items }
-    ensures { result ≡ slice_range (arc_value (arc_value whole)).items from to }
+/// One more owner of what is shared, the first in a count of its own.
+fn new_count(
+    alloc: Global,
+    whole: &Option<Arc<Arc<Vec<u8>>>>,
+) -> Result<Option<Arc<Arc<Vec<u8>>>>, NoMemory>
+    ensures { IfOk result (λ w. shared_bytes w ≡ shared_bytes whole.now) }
 {
-    Payload {
-        memory: Memory::Shared { whole, from, to },
+    match whole {
+        Some(whole) => {
+            let bytes = Arc::try_clone(&**whole)?;
+            Ok(Some(Arc::new(alloc, bytes)?))
+        }
+        None => Ok(None),
     }
 }

@@ -9,7 +9,7 @@ mod lending;
 #[derive(Clone, Copy)]
 pub struct PayloadRef<'a> {
     bytes: &'a [u8],
-    /// The payload that shares them, if one does.
+    /// The payload that has them, if one does.
     whole: Option<&'a Payload>,
     /// Where they begin in it.
     from: usize,

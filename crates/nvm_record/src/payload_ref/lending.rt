@@ -70,7 +70,7 @@ impl<'a> PayloadRef<'a> {
         self.bytes.len()
     }
 
-    /// Whether a share copies nothing. No clause hangs on it: only what memory a share takes.
+    /// Whether a payload has them, so that a share copies nothing. No clause hangs on it: only what memory a share takes.
     #[inline(always)]
     pub fn is_shared(self) -> bool {
         self.whole.is_some()
@@ -94,8 +94,8 @@ impl<'a> PayloadRef<'a> {
         }
     }
 
-    /// The bytes, shared. Where a payload shares them it takes no memory, and is refused only where 2^63 - 1 payloads do
-    /// already. Else they are copied.
+    /// The bytes, shared. Those of a payload take no memory, and are refused only where 2^63 - 1 payloads share them
+    /// already. Others are copied.
     #[tactic(auto, unfolding(crate::specs::PayloadRef::lent_bytes))]
     #[inline(always)]
     pub fn share(self, alloc: Global) -> Result<Payload, NoMemory>
@@ -121,7 +121,7 @@ impl Payload {
     {
         PayloadRef {
             bytes: self.as_slice(),
-            whole: if self.is_shared() { Some(self) } else { None },
+            whole: Some(self),
             from: 0,
         }
     }
@@ -134,12 +134,8 @@ impl Payload {
         requires within { to ≤ length self.now }
         ensures { lent_bytes result ≡ slice_range self.now from to }
     {
-        let bytes = &self.as_slice()[from..to];
-        if !self.is_shared() {
-            return PayloadRef::of(bytes);
-        }
         PayloadRef {
-            bytes,
+            bytes: &self.as_slice()[from..to],
             whole: Some(self),
             from,
         }

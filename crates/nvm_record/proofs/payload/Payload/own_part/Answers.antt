@@ -1,9 +1,8 @@
-use Rattle.std.proofs.Common.{rules}
-use Rattle.nvm_record.proofs.PartsOfParts.{part_of_shared}
+use Rattle.nvm_record.specs.SharedBytes.{shared_bytes}
+use Rattle.nvm_record.proofs.PartsOfParts.{part_of_part}
 use Rattle.nvm_record.proofs.payload.Payload.own_part.Goals as goal
 
-pub returns-in_ok-whole-in-Shared : goal.returns-in_ok-whole-in-Shared
-returns-in_ok-whole-in-Shared c =
-    rw c.shared_part.ensures
-    (part_of_shared c.self.inside.memory c.in-Shared.whole c.in-Shared.at c.in-Shared.to _ c.args.self.now c.args.from c.args.to c.in-Shared.is c.self.view_is
-    (search rules) c.self.invariant c.requires.ordered c.requires.within)
+pub returns : goal.returns
+returns c =
+    rw (c.in_ok-whole.ensures, ← c.self.view_is)
+    (part_of_part (shared_bytes c.self.inside.whole) c.self.inside.from c.self.inside.to c.args.from c.args.to c.self.invariant.0 c.self.invariant.1 c.requires.ordered (rw c.self.view_is c.requires.within))
