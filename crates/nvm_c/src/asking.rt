@@ -80,10 +80,8 @@ fn asked_alone(alloc: Global, size: BlockSize, entry: &[u8], buffer: &[u8]) -> R
     ensures refused { IfErr result IsRefusal }
 {
     let fields = entry_fields(entry);
-    if reads(fields.op) {
-        if buffer.len() != (usize::from(fields.nlb) + 1) * size.bytes() as usize {
-            return Err(Code::BadLength);
-        }
+    if reads(fields.op) && buffer.len() != room(fields.op, fields.nlb, size) {
+        return Err(Code::BadLength);
     }
     command_of(alloc, size, entry, sent_with(fields.op, buffer))
 }
@@ -100,6 +98,19 @@ pub(crate) fn reads(op: Op) -> bool
     ensures { result ≡ spec.reads op }
 {
     matches!(op, Op::Read)
+}
+
+/// How many bytes a command reads, if it succeeds.
+#[inline(always)]
+pub(crate) fn room(op: Op, nlb: u16, size: BlockSize) -> usize
+    ensures read { IsTrue (spec.reads op) → result ≡ (nlb + 1) * size }
+    ensures none { spec.reads op ≡ false → result ≡ 0 }
+{
+    if reads(op) {
+        (usize::from(nlb) + 1) * size.bytes() as usize
+    } else {
+        0
+    }
 }
 
 /// The commands of two entries, whose data stands in the buffer in their order.
@@ -155,7 +166,7 @@ fn command_of(alloc: Global, size: BlockSize, entry: &[u8], data: &[u8]) -> Resu
 }
 
 /// The command of an entry with these fields, and of this data.
-pub(crate) fn command_with(fields: &EntryFields, payload: Payload) -> Command
+fn command_with(fields: &EntryFields, payload: Payload) -> Command
     ensures { result ≡ command_lent fields.now payload }
 {
     Command {

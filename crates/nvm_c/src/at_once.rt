@@ -15,19 +15,17 @@ ghost use Rattle.nvm_c.specs.Logs.{HasRoomIn, kept_by};
 ghost use Rattle.nvm_c.specs.Submitted.{Progresses, Submits};
 ghost use Rattle.nvm_c.specs.Told.{posted_length};
 
-use crate::asking::{command_with, plain_fields, reads};
+use crate::asking::{plain_fields, reads, room};
 use crate::code::Code;
 use crate::engine::{Engine, Pending, told_statuses_fit_their_entries};
 use crate::log::draw;
 use crate::quiet::Quiet;
 use crate::telling::tell;
-use nvm_plan::{Body, BodyFields, Completions, Job};
-use nvm_record::{
-    BlockSize, Completion, EntryFields, Fuse, Op, Payload, PayloadRef, Status, Statuses,
-};
-use nvm_space::{AtOnce, JobDone};
+use crate::waiting::{WaitingJob, room_of};
+use nvm_plan::{BodyFields, Completions};
+use nvm_record::{BlockSize, Completion, EntryFields, Fuse, Op, PayloadRef, Status, Statuses};
+use nvm_space::JobDone;
 use std::alloc::Global;
-use std::mem::replace;
 
 impl Engine {
     /// Submits a command by itself without ranges.
@@ -58,16 +56,10 @@ impl Engine {
         }
         // A Read's buffer is room, and any other's is data.
         let sent = if reads(fields.op) { 0 } else { data.len() };
-        if !make_room(&mut self.spare, sent) {
-            return Code::NoMemory;
-        }
-        let Ok(number) = draw(&mut self.number, &mut self.log) else {
-            return Code::NoMemory;
-        };
         self.submit_fields(
             alloc,
-            number,
             host,
+            entry,
             BodyFields::Single(fields),
             0,
             sent,
@@ -111,16 +103,10 @@ impl Engine {
         if sent - called != write.op.data_length(write.nlb, write.nr, size) {
             return Code::BadLength;
         }
-        if !make_room(&mut self.compared, called) || !make_room(&mut self.spare, sent - called) {
-            return Code::NoMemory;
-        }
-        let Ok(number) = draw(&mut self.number, &mut self.log) else {
-            return Code::NoMemory;
-        };
         self.submit_fields(
             alloc,
-            number,
             host,
+            entries,
             BodyFields::Pair(compare, write),
             called,
             sent,
@@ -129,104 +115,133 @@ impl Engine {
         )
     }
 
-    /// Begins the job of this number, of entries with these fields, and goes on with it. The data of a pair's Compare is in the buffer up to place
+    /// Does the job of entries with these fields, where it has one part whose unit is free. The data of a pair's Compare is in the buffer up to place
     /// `called`, and that of a command by itself, or of a pair's Write, from there up to place `sent`. What is behind that is room for what a Read reads.
     #[inline(always)]
     fn submit_fields(
         &mut self,
         alloc: Global,
-        number: u32,
         host: u16,
+        entries: &[u8],
         fields: BodyFields,
         called: usize,
         sent: usize,
         data: &mut [u8],
         posted: &mut [u8],
     ) -> Code
-        requires of { IsPortOf (space_of self.old) self.old.port }
-        requires few { self.old.port.number < 64 }
+        requires sound { IsSound self.old }
         requires idle { self.old.pending ≡ None }
-        requires unrecorded { kept_by self.old.log ≡ None }
-        requires log { HasRoomIn self.old.log }
+        requires unrecorded { self.old.log ≡ None }
         requires unlisted { (space_of self.old).lists ≡ false }
         requires host { host ≡ self.old.port.number + 1 }
         requires called { called ≤ sent }
         requires sent { (sent ≡ length data.old) ⊎ (sent ≡ 0) }
-        requires spare { sent - called ≤ length self.old.spare.items }
-        requires compared { called ≤ length self.old.compared.items }
         requires whole { IsWholeBody (namespace_of self.old).block_size (body_lent fields (slice_range data.old called sent) (take called data.old)) }
+        requires asked { IsAsked (namespace_of self.old).block_size (self.old.port.number + 1) entries.now data.old
+            (record { host = host; body = body_lent fields (slice_range data.old called sent) (take called data.old) }) }
         requires room { length posted.old ≡ posted_length (body_lent fields (slice_range data.old called sent) (take called data.old)) }
         ensures sound { IsSound self.new }
-        ensures space { space_of self.new ≡ space_of self.old }
-        ensures number { self.new.number ≡ self.old.number }
-        ensures progress { Progresses result (space_of self.old) number
-            (record { host = host; body = body_lent fields (slice_range data.old called sent) (take called data.old) })
-            (seen_by self.old) (seen_by self.new) self.new.pending (kept_by self.old.log) (kept_by self.new.log)
+        ensures submits { Submits result self.old self.new entries.now
             (record { bytes = data.old; posted = posted.old }) (record { bytes = data.new; posted = posted.new }) }
     {
         told_statuses_fit_their_entries();
         let (front, room) = data.split_at_mut(sent);
         let (compared, payload) = front.split_at(called);
-        let polled = self.space.poll_lent(
-            alloc,
-            &mut self.port,
-            number,
+        let only = self.space.only_part(
             fields,
             PayloadRef::of(payload),
             PayloadRef::of(compared),
             room,
+        );
+        let Some((unit, part)) = only else {
+            return self.submit_job(alloc, host, entries, data, posted);
+        };
+        if !self.spare.make_room(payload.len(), compared.len()) {
+            return Code::NoMemory;
+        }
+        let Ok(number) = draw(&mut self.number, &mut self.log) else {
+            return Code::NoMemory;
+        };
+        let polled = self.space.poll_only_part(
+            alloc,
+            &mut self.port,
+            number,
+            unit,
+            part,
+            room,
             &Quiet,
         );
         match polled {
-            AtOnce::Done(statuses) => {
+            Some(statuses) => {
                 let done = job_done(alloc, host, fields, statuses);
                 tell(&done.completions, &mut [], posted);
                 Code::Done
             }
-            AtOnce::Pending(under_way) => {
-                let payload = keep_data(alloc, &mut self.spare, payload);
-                let compared = keep_data(alloc, &mut self.compared, compared);
-                let job = job_of(host, fields, payload, compared);
-                self.pending = Some(Pending {
+            None => {
+                let data = self.spare.keep(alloc, payload, compared);
+                self.pending = Some(Pending::Waiting(WaitingJob {
                     number,
-                    job,
-                    under_way,
-                });
+                    host,
+                    fields,
+                    data,
+                }));
                 Code::Pending
-            }
-            AtOnce::Apart => {
-                let payload = keep_data(alloc, &mut self.spare, payload);
-                let compared = keep_data(alloc, &mut self.compared, compared);
-                let mut held = Some(job_of(host, fields, payload, compared));
-                self.begin_numbered(alloc, number, &mut held, data, posted)
             }
         }
     }
-}
 
-/// Makes the spare memory at least this long, and says whether there was memory for that.
-#[inline(always)]
-fn make_room(spare: &mut Vec<u8>, len: usize) -> bool
-    ensures { OnTrue result (len ≤ length spare.new.items) }
-{
-    if spare.len() >= len {
-        return true;
+    /// Tries the only part of a job again, which isn't in `pending`.
+    pub(crate) fn go_on_waiting(
+        &mut self,
+        alloc: Global,
+        waiting: WaitingJob,
+        data: &mut [u8],
+        posted: &mut [u8],
+    ) -> Code {
+        told_statuses_fit_their_entries();
+        let WaitingJob {
+            number,
+            host,
+            fields,
+            data: kept,
+        } = waiting;
+        let (room, _) = data.split_at_mut(room_of(fields, self.space.geometry().block_size()));
+        let only = self.space.only_part(
+            fields,
+            PayloadRef::of(&kept.payload),
+            PayloadRef::of(&kept.compared),
+            room,
+        );
+        let polled = match only {
+            Some((unit, part)) => self.space.poll_only_part(
+                alloc,
+                &mut self.port,
+                number,
+                unit,
+                part,
+                room,
+                &Quiet,
+            ),
+            None => None,
+        };
+        match polled {
+            Some(statuses) => {
+                let done = job_done(alloc, host, fields, statuses);
+                tell(&done.completions, &mut [], posted);
+                self.spare = kept;
+                Code::Done
+            }
+            None => {
+                self.pending = Some(Pending::Waiting(WaitingJob {
+                    number,
+                    host,
+                    fields,
+                    data: kept,
+                }));
+                Code::Pending
+            }
+        }
     }
-    spare.resize(len, 0).is_ok()
-}
-
-/// Keeps data in the spare memory, which goes with it. No data leaves the spare memory. It takes none.
-fn keep_data(alloc: Global, spare: &mut Vec<u8>, data: &[u8]) -> Payload
-    requires { length data.now ≤ length spare.old.items }
-    ensures { result ≡ data.now }
-{
-    if data.is_empty() {
-        return Payload::empty();
-    }
-    let mut bytes = replace(spare, Vec::new(alloc));
-    bytes.truncate(data.len());
-    bytes.copy_from_slice(data);
-    Payload::own(bytes)
 }
 
 /// Whether they are a Compare and a Write that are the first and the second of a fused pair.
@@ -246,7 +261,7 @@ fn fits_buffer(fields: &EntryFields, size: BlockSize, data: &[u8]) -> bool
     ensures read { OnTrue result (IsTrue (spec.reads fields.now.op) → length data.now ≡ (fields.now.nlb + 1) * size) }
 {
     if reads(fields.op) {
-        data.len() == (usize::from(fields.nlb) + 1) * size.bytes() as usize
+        data.len() == room(fields.op, fields.nlb, size)
     } else {
         data.len() == fields.op.data_length(fields.nlb, fields.nr, size)
     }
@@ -287,19 +302,4 @@ fn completion(host: u16, fields: EntryFields, status: Status) -> Completion
         status,
         payload: None,
     }
-}
-
-/// The job of entries with these fields and this data.
-#[inline(always)]
-fn job_of(host: u16, fields: BodyFields, payload: Payload, compared: Payload) -> Job
-    ensures { result ≡ record { host = host; body = body_lent fields payload compared } }
-{
-    let body = match fields {
-        BodyFields::Single(alone) => Body::Single(command_with(&alone, payload)),
-        BodyFields::Pair(compare, write) => Body::Pair(
-            command_with(&compare, compared),
-            command_with(&write, payload),
-        ),
-    };
-    Job { host, body }
 }

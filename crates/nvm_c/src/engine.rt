@@ -15,13 +15,14 @@ ghost use Rattle.nvm_c.specs.Logs.{HasRoomIn, kept_by};
 ghost use Rattle.nvm_c.specs.Submitted.{Polls, Progresses, Submits};
 ghost use Rattle.nvm_c.specs.Told.{FitEntries, posted_length, told_length};
 
-use crate::asking::{asked_job, is_plain};
+use crate::asking::{asked_job, is_plain, room};
 use crate::code::Code;
 use crate::log::{Log, draw, keep};
 use crate::quiet::Quiet;
 use crate::telling::{entries_length, tell};
+use crate::waiting::{JobData, WaitingJob};
 use nvm_plan::{Body, Job};
-use nvm_record::Op;
+use nvm_record::BlockSize;
 use nvm_space::{JobUnderWay, Port, Progress, Space};
 use nvm_unit::Count;
 use std::alloc::Global;
@@ -35,20 +36,23 @@ pub struct Engine {
     /// The number of the next job, where the namespace isn't recorded.
     pub(crate) number: u32,
     pub(crate) pending: Option<Pending>,
-    /// Memory for the data of a command that has to wait for its unit: as long as the longest since it was last taken along.
-    pub(crate) spare: Vec<u8>,
-    /// The same for a pair's Compare.
-    pub(crate) compared: Vec<u8>,
+    /// Memory for the data of a job that has to wait for its unit.
+    pub(crate) spare: JobData,
     /// What it did, where the namespace is recorded.
     pub(crate) log: Option<Log>,
 }
 
 /// A job that was begun, and how far it is.
 #[derive(Drop)]
-pub struct Pending {
-    pub(crate) number: u32,
-    pub(crate) job: Job,
-    pub(crate) under_way: JobUnderWay,
+pub enum Pending {
+    /// Some of its parts may be done.
+    UnderWay {
+        number: u32,
+        job: Job,
+        under_way: JobUnderWay,
+    },
+    /// Its only part isn't done.
+    Waiting(WaitingJob),
 }
 
 impl Engine {
@@ -188,24 +192,27 @@ impl Engine {
         ensures polls { Polls result self.old self.new
             (record { bytes = data.old; posted = posted.old }) (record { bytes = data.new; posted = posted.new }) }
     {
-        let Some(pending) = &self.pending else {
-            return Code::Idle;
+        let size = self.space.geometry().block_size();
+        let (entries, room) = match &self.pending {
+            None => return Code::Idle,
+            Some(Pending::UnderWay { job, .. }) => (entries_length(job), room_of_job(job, size)),
+            Some(Pending::Waiting(waiting)) => (waiting.entries_length(), waiting.room(size)),
         };
-        if posted.len() != entries_length(&pending.job)
-            || data.len() < room(&pending.job, &self.space)
-        {
+        if posted.len() != entries || data.len() < room {
             return Code::BadLength;
         }
-        let Some(taken) = self.pending.take() else {
-            unreachable!("a job is pending")
-        };
-        let Pending {
-            number,
-            job,
-            under_way,
-        } = taken;
-        let mut held = Some(job);
-        self.go_on(alloc, number, &mut held, under_way, data, posted)
+        match self.pending.take() {
+            None => unreachable!("a job is pending"),
+            Some(Pending::UnderWay {
+                number,
+                job,
+                under_way,
+            }) => {
+                let mut held = Some(job);
+                self.go_on(alloc, number, &mut held, under_way, data, posted)
+            }
+            Some(Pending::Waiting(waiting)) => self.go_on_waiting(alloc, waiting, data, posted),
+        }
     }
 
     /// Goes on with a job that isn't in `pending`. It is taken if it is kept or pending then.
@@ -254,7 +261,7 @@ impl Engine {
                 let Some(job) = held.take() else {
                     unreachable!("a job is held")
                 };
-                self.pending = Some(Pending {
+                self.pending = Some(Pending::UnderWay {
                     number,
                     job,
                     under_way,
@@ -266,12 +273,10 @@ impl Engine {
 }
 
 /// How many bytes the job reads, if it succeeds.
-fn room(job: &Job, space: &Space<Count>) -> usize {
+fn room_of_job(job: &Job, size: BlockSize) -> usize {
     match &job.body {
-        Body::Single(command) if command.op == Op::Read => {
-            (usize::from(command.nlb) + 1) * space.geometry().block_size().bytes() as usize
-        }
-        _ => 0,
+        Body::Single(command) => room(command.op, command.nlb, size),
+        Body::Pair(_, _) => 0,
     }
 }
 

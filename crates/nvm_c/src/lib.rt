@@ -30,5 +30,6 @@ mod recording;
 mod refuting;
 mod telling;
 mod trace_code;
+mod waiting;
 mod witnessing;
 mod work;

@@ -13,6 +13,7 @@ use crate::code::Code;
 use crate::engine::Engine;
 use crate::handle::Handle;
 use crate::log::{Log, Numbering};
+use crate::waiting::JobData;
 use nvm_geometry::{Geometry, GeometryFault};
 use nvm_record::NoMemory;
 use nvm_space::Space;
@@ -153,8 +154,7 @@ fn engines(
                 port,
                 number: 0,
                 pending: None,
-                spare: Vec::new(alloc),
-                compared: Vec::new(alloc),
+                spare: JobData::new(alloc),
                 log,
             },
         )?;

@@ -1,5 +1,5 @@
 -- What became of a job that was to be done at once (own).
-use Rattle.std.specs.Prelude.{◌≡◌, ℕ, false, List, [], Option, unwrap_or}
+use Rattle.std.specs.Prelude.{◌≡◌, ℕ, false, List, [], Option, Some, None, unwrap_or}
 use Rattle.nvm_record.specs.declared.status.Statuses.{Statuses}
 use Rattle.nvm_geometry.specs.Namespace.{Namespace}
 use Rattle.nvm_plan.specs.Completions.{completions_of, data_in}
@@ -7,10 +7,8 @@ use Rattle.nvm_plan.specs.Shape.{IsForEach}
 use Rattle.nvm_plan.specs.declared.job.Job.{Job}
 use Rattle.nvm_unit.specs.declared.views.PassView.{PassView}
 use Rattle.nvm_space.specs.Trace.{DoesJob}
-use Rattle.nvm_space.specs.UnderWay.{IsUnderWay}
+use Rattle.nvm_space.specs.UnderWay.{MayHaveWaited}
 use Rattle.nvm_space.specs.declared.job_done.JobDone.{JobDone}
-use Rattle.nvm_space.specs.declared.lent.AtOnce.{AtOnce}
-use Rattle.nvm_space.specs.declared.lent.AtOnce.TheVariants.{Done, Pending, Apart}
 
 -- Since `start` the job of this number was done, and reported with these statuses and with this data, if it is a Read's. That took the
 -- buffer's place. No part is listed.
@@ -20,8 +18,7 @@ pub record IsDoneAtOnce (ns : Namespace) (number : ℕ) (job : Job) (start now :
   pub buffer : new ≡ unwrap_or (data_in (completions_of job statuses read)) old
   pub does : (done : JobDone) → done.completions ≡ completions_of job statuses read → done.parts.items ≡ [] → DoesJob ns false number job start now done
 
--- It was done; or it is under way; or nothing was done.
-abbrev pub IsAtOnce : Namespace → ℕ → Job → List PassView → List PassView → List ℕ → List ℕ → AtOnce → Type 0
-IsAtOnce ns number job start now old new (Done statuses) = IsDoneAtOnce ns number job start now old new statuses
-IsAtOnce ns number job start now old new (Pending w) = (new ≡ old) × (w.number ≡ number) × IsUnderWay ns false job w start now
-IsAtOnce ns number job start now old new Apart = (new ≡ old) × (now ≡ start)
+-- It was done; or the port found that it couldn't have the unit of its only part.
+abbrev pub IsAtOnce : Namespace → ℕ → Job → ℕ → List PassView → List PassView → List ℕ → List ℕ → Option Statuses → Type 0
+IsAtOnce ns number job unit start now old new (Some statuses) = IsDoneAtOnce ns number job start now old new statuses
+IsAtOnce ns number job unit start now old new None = (new ≡ old) × MayHaveWaited unit start now

@@ -1,10 +1,9 @@
 //! A job whose data is lent and whose range lies in one unit: it is done in one step, without a `Job` that holds it.
-ghost use Rattle.std.specs.Prelude.{◌≡◌, ◌↔◌, ◌≤◌, ℕ, Bool, List, [], IsTrue, MatchOption, false, length, unwrap_or};
+ghost use Rattle.std.specs.Prelude.{◌≡◌, ◌↔◌, ℕ, Bool, List, IfSome, IsTrue, MatchOption, false, unwrap_or};
 ghost use Rattle.std.specs.Bool.{OnTrue};
 ghost use Rattle.nvm_record.specs.PayloadRef.{lent_bytes};
 ghost use Rattle.nvm_record.specs.Status.{IsSuccess};
 ghost use Rattle.nvm_record.specs.Step.{Operation};
-ghost use Rattle.nvm_geometry.specs.Boundaries.{units_of};
 ghost use Rattle.nvm_geometry.specs.Namespace.{Namespace};
 ghost use Rattle.nvm_store.specs.Answer.{IsRoomFor};
 ghost use Rattle.nvm_store.specs.Place.{IsCovered};
@@ -23,13 +22,12 @@ ghost use Rattle.nvm_space.specs.AtOnce.{IsAtOnce, IsDoneAtOnce};
 ghost use Rattle.nvm_space.specs.Inside.Parts.{AreUnitsOf, DoesPartInto, part_done};
 ghost use Rattle.nvm_space.specs.Ports.{ArePassesOfAll, IsPortOf};
 ghost use Rattle.nvm_space.specs.Trace.{DoesPart};
-ghost use Rattle.nvm_space.specs.UnderWay.{IsUnderWay, UnderWay};
+ghost use Rattle.nvm_space.specs.UnderWay.{MayHaveWaited};
 ghost use Rattle.nvm_space.specs.Visits.{BecomesAt};
 
 use crate::port::Port;
 use crate::replies::reply_of_change;
 use crate::space::Space;
-use crate::under_way::JobUnderWay;
 use nvm_geometry::{Geometry, laws};
 use nvm_plan::laws::{
     answers_of_the_step_are_replies, each_command_has_a_status, outcomes_are_made_part_by_part,
@@ -39,60 +37,72 @@ use nvm_plan::{BodyFields, LentPart, only_part};
 use nvm_record::{BlockSize, PayloadRef, Statuses};
 use nvm_store::Look;
 use nvm_store::laws::acts_and_looks;
+use nvm_unit::laws::waiting_is_no_step;
 use nvm_unit::{Gate, Kept, Pass, Unit};
 use std::alloc::Global;
 
-/// What became of a job that was to be done at once.
-#[derive(Drop)]
-pub enum AtOnce {
-    /// It was done, and this is reported to its host: a status for each of its commands, and the data that is in the buffer with a Read's 0/00.
-    Done(Statuses),
-    /// It is under way, since its unit was not to be had, and [`Space::poll_job`](crate::Space::poll_job) resumes it.
-    Pending(JobUnderWay),
-    /// It isn't done at once, as it is written where a check refuses it, its range lies in several units, or the buffer hasn't a Read's length.
-    /// Nothing was done.
-    Apart,
-}
-
 impl<K: Kept> Space<K> {
-    /// Does a job, as [`begin_job`](Space::begin_job) and [`poll_job`](Space::poll_job) do, where no check refuses it and its range lies in one
-    /// unit. Its entries have these fields, and its data is lent: the payload is that of its command, or of a pair's second, and `compared` that of a
-    /// pair's first. A Read is done only where the buffer has the length of what it reads: then its data is there with 0/00. Else the buffer is as it
-    /// was. It takes no memory but that of a change, and waits for nothing.
+    /// The only part of a job whose data is lent, with its unit. It may be `None`; as it is written it is so where a check refuses the job, where its
+    /// range lies in several units, for a Dataset Management, and for a Read where the buffer hasn't the length of what it reads. The job's entries have
+    /// these fields. The payload is that of its command, or of a pair's second, and `compared` that of a pair's first. It takes no memory.
     #[inline(always)]
-    pub fn poll_lent<G: Gate>(
+    pub fn only_part<'a>(
+        &self,
+        fields: BodyFields,
+        payload: PayloadRef<'a>,
+        compared: PayloadRef<'a>,
+        buffer: &[u8],
+    ) -> Option<(u16, LentPart<'a>)>
+        requires { IsWholeBody self.now.namespace.block_size (body_lent fields (lent_bytes payload) (lent_bytes compared)) }
+        ensures part { IfSome result (λ only. (job : Asked) → job.body ≡ body_lent fields (lent_bytes payload.entry) (lent_bytes compared.entry)
+            → IsOnlyPart self.now.namespace job only.0 (part_operation_of only.1)) }
+        ensures covered { IfSome result (λ only. (place : UnitPlace) → IsUnitPlace self.now.namespace only.0 place
+            → IsCovered place (part_operation_of only.1)) }
+        ensures room { IfSome result (λ only. IsRoomFor (part_operation_of only.1) self.now.namespace.block_size buffer.now) }
+    {
+        let (unit, part) = only_part(&self.geometry, fields, payload, compared)?;
+        if !has_room(part, self.geometry.block_size(), buffer) {
+            return None;
+        }
+        Some((unit, part))
+    }
+
+    /// Does the only part of a job, with which the job is done: it answers what is reported of its commands, and the data of a Read with 0/00 is in
+    /// the buffer. It is `None` where the unit wasn't to be had: then the port may be polled with that part again. Else the buffer is as it was.
+    /// It takes no memory but that of a change, and waits for nothing.
+    #[inline(always)]
+    pub fn poll_only_part<G: Gate>(
         &self,
         alloc: Global,
         port: &mut Port<K>,
         number: u32,
-        fields: BodyFields,
-        payload: PayloadRef<'_>,
-        compared: PayloadRef<'_>,
+        unit: u16,
+        part: LentPart<'_>,
         buffer: &mut [u8],
         gate: &G,
-    ) -> AtOnce
+    ) -> Option<Statuses>
         requires of { IsPortOf self.now port.old }
         requires unlisted { self.now.lists ≡ false }
-        requires whole { IsWholeBody self.now.namespace.block_size (body_lent fields (lent_bytes payload) (lent_bytes compared)) }
+        requires only { (job : Asked) × IsOnlyPart self.now.namespace job unit (part_operation_of part) }
+        requires covered { (place : UnitPlace) → IsUnitPlace self.now.namespace unit place → IsCovered place (part_operation_of part) }
+        requires room { IsRoomFor (part_operation_of part) self.now.namespace.block_size buffer.old }
         ensures of { IsPortOf self.now port.new }
         ensures number { port.new.number ≡ port.old.number }
-        ensures goes { (job : Asked) → job.body ≡ body_lent fields (lent_bytes payload.entry) (lent_bytes compared.entry)
-            → IsAtOnce self.now.namespace number job (views_of port.old.passes) (views_of port.new.passes) buffer.old buffer.new result }
+        ensures goes { (job : Asked) (start : List PassView) → IsOnlyPart self.now.namespace job unit (part_operation_of part.entry)
+            → MayHaveWaited unit start (views_of port.old.passes)
+            → IsAtOnce self.now.namespace number job unit start (views_of port.new.passes) buffer.old buffer.new result }
     {
-        match only_part(&self.geometry, fields, payload, compared) {
-            Some((unit, part)) => poll_only_part(
-                alloc,
-                &self.geometry,
-                &self.units,
-                &mut port.passes,
-                number,
-                unit,
-                part,
-                buffer,
-                gate,
-            ),
-            None => AtOnce::Apart,
-        }
+        poll_only_part(
+            alloc,
+            &self.geometry,
+            &self.units,
+            &mut port.passes,
+            number,
+            unit,
+            part,
+            buffer,
+            gate,
+        )
     }
 }
 
@@ -108,24 +118,24 @@ fn poll_only_part<G: Gate, K: Kept>(
     part: LentPart<'_>,
     buffer: &mut [u8],
     gate: &G,
-) -> AtOnce
+) -> Option<Statuses>
     requires units { AreUnitsOf geometry.now false units.now }
     requires passes { (n : ℕ) × ArePassesOfAll units.now n passes.old.items }
     requires only { (job : Asked) × IsOnlyPart geometry.now job unit (part_operation_of part) }
     requires covered { (place : UnitPlace) → IsUnitPlace geometry.now unit place → IsCovered place (part_operation_of part) }
+    requires room { IsRoomFor (part_operation_of part) geometry.now.block_size buffer.old }
     ensures passes { (n : ℕ) → ArePassesOfAll units.now n passes.old.items
         → ArePassesOfAll units.now n passes.new.items }
-    ensures goes { (job : Asked) → IsOnlyPart geometry.now job unit (part_operation_of part.entry)
-        → IsAtOnce geometry.now number job (views_of passes.old.items) (views_of passes.new.items) buffer.old buffer.new result }
+    ensures goes { (job : Asked) (start : List PassView) → IsOnlyPart geometry.now job unit (part_operation_of part.entry)
+        → MayHaveWaited unit start (views_of passes.old.items)
+        → IsAtOnce geometry.now number job unit start (views_of passes.new.items) buffer.old buffer.new result }
 {
     an_only_part_is_the_outcome();
     parts_of_jobs();
-    if !has_room(part, geometry.block_size(), buffer) {
-        return AtOnce::Apart;
-    }
+    waiting_is_no_step();
     let _units = geometry.units();
     let place = usize::from(unit);
-    let polled = poll_part_into(
+    let statuses = poll_part_into(
         alloc,
         &units[place],
         &mut passes[place],
@@ -134,14 +144,9 @@ fn poll_only_part<G: Gate, K: Kept>(
         part,
         buffer,
         gate,
-    );
-    match polled {
-        Some(statuses) => {
-            let _ = statuses.is_success();
-            AtOnce::Done(statuses)
-        }
-        None => AtOnce::Pending(JobUnderWay::begun(alloc, number, unit)),
-    }
+    )?;
+    let _ = statuses.is_success();
+    Some(statuses)
 }
 
 /// Whether the buffer has as many bytes as the part reads, if it is of a Read.
@@ -191,14 +196,11 @@ fn poll_part_into<G: Gate, K: Kept>(
     }
 }
 
-/// Where the only part of a job was done, what was reported about it is reported about the job. Where its unit was not to be had, the job is under way.
+/// Where the only part of a job was done, what was reported about it is reported about the job.
 fn an_only_part_is_the_outcome()
-    ensures done { (ns : Namespace) (number : ℕ) (job : Asked) (unit : ℕ) (part : Operation) (r : Reply) (ok : Bool) (start now : List PassView) (old : List ℕ)
+    ensures { (ns : Namespace) (number : ℕ) (job : Asked) (unit : ℕ) (part : Operation) (r : Reply) (ok : Bool) (start now : List PassView) (old : List ℕ)
         → IsOnlyPart ns job unit part → r.part.unit ≡ unit → BecomesAt unit (DoesPart (part_done number part r)) start now
         → IsTrue ok ↔ IsSuccess r.statuses → IsDoneAtOnce ns number job start now old (unwrap_or r.payload old) r.statuses }
-    ensures pending { (ns : Namespace) (number : ℕ) (job : Asked) (unit : ℕ) (part : Operation) (w : UnderWay) (start now : List PassView)
-        → IsOnlyPart ns job unit part → w ≡ record { number = number; unit = unit; parts = []; bytes = []; room = w.room }
-        → BecomesAt unit Waits start now → (w.number ≡ number) × IsUnderWay ns false job w start now }
 {
     outcomes_by_plan();
     outcomes_are_made_part_by_part();

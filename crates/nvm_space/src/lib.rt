@@ -2,7 +2,7 @@
 //!
 //! [`Space::new`] gives a space with its ports, which threads take with them. A port holds a pass of each
 //! unit, and what its passes have seen grows at each call. [`Space::close`] gives the histories of all units.
-//! [`Space::unrecorded`] gives one that keeps the number of each unit's changes alone, in which [`Space::poll_lent`] does at
+//! [`Space::unrecorded`] gives one that keeps the number of each unit's changes alone, in which [`Space::poll_only_part`] does at
 //! once what lies in one unit.
 #![tactic(auto)]
 
@@ -21,7 +21,6 @@ mod space_fault;
 mod under_way;
 
 pub use job_done::JobDone;
-pub use lent::AtOnce;
 pub use port::Port;
 pub use read_now::{ReadAnswer, ReadNow};
 pub use space::{MOST_PORTS, Space};

@@ -118,18 +118,6 @@ pub(crate) fn begin(
 }
 
 impl JobUnderWay {
-    /// A job none of whose parts was done, the first of which is in this unit. No part is listed.
-    pub(crate) fn begun(alloc: Global, number: u32, unit: u16) -> JobUnderWay
-        ensures { result ≡ record { number = number; unit = unit; parts = []; bytes = []; room = result.room } }
-    {
-        JobUnderWay {
-            number,
-            unit,
-            parts: Vec::new(alloc),
-            bytes: Vec::new(alloc),
-        }
-    }
-
     /// The job's next part, and its unit.
     pub(crate) fn next_part<'a>(&self, geometry: &Geometry, job: &'a Job) -> (u16, LentPart<'a>)
         requires fits { FitsNamespace geometry.now job.now }
