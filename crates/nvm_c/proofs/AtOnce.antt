@@ -1,12 +1,13 @@
 -- What a job that is done at once leaves.
 use Rattle.std.proofs.Common.{◌≡◌, ◌⊎◌, inl, inr, ◌∙◌, ℕ, ◌+◌, ◌-◌, ◌<◌, ◌≤◌, List, [], ◌∷◌, ◌++◌, length, take, drop, slice_range, Option, None, Some, unwrap_or, append-nil, refl, sym, ap, subst, arith}
-use Rattle.std.proofs.lemmas.List.{drop-take, length-drop, take-take, take_all}
+use Rattle.std.proofs.lemmas.List.{drop-take, length-drop, length-take-le, take-append-drop, take-take, take_all}
 use Rattle.nvm_record.specs.declared.status.Statuses.{Statuses}
 use Rattle.nvm_geometry.specs.Namespace.{Namespace}
 use Rattle.nvm_plan.specs.Fits.{FitsNamespace, IsWholeBody}
 use Rattle.nvm_plan.specs.OnlyPart.{body_lent}
 use Rattle.nvm_plan.specs.Completions.{body_completions, data_in}
 use Rattle.nvm_plan.specs.declared.body_fields.BodyFields.{BodyFields}
+use Rattle.nvm_plan.specs.declared.body_fields.BodyFields.TheVariants as fields
 use Rattle.nvm_plan.specs.declared.completions.Completions.{Completions}
 use Rattle.nvm_plan.specs.declared.completions.Completions.TheVariants.{One, Two}
 use Rattle.nvm_plan.specs.declared.job.Body.{Body}
@@ -14,7 +15,7 @@ use Rattle.nvm_plan.specs.declared.job.Body.TheVariants.{Pair, Single}
 use Rattle.nvm_plan.specs.declared.job.Job.{Job}
 use Rattle.nvm_space.specs.declared.job_done.JobDone.{JobDone}
 use Rattle.nvm_c.specs.Logs.{HasDrawn, LogState, kept_by, with_kept}
-use Rattle.nvm_c.specs.Told.{FitEntries, all_posted, overwritten, read_by}
+use Rattle.nvm_c.specs.Told.{FitEntries, all_posted, overwritten, posted_length, read_by}
 use Rattle.nvm_c.specs.declared.log.Log.{Log}
 
 -- Nothing is recorded after a number was drawn where nothing was before, and nothing is kept there.
@@ -117,3 +118,23 @@ buffer_told told buffer front room new sent front_is room_is is same (inr none) 
     let all_room : room ≡ buffer = room_is ∙ ap (λ (n : ℕ). drop n buffer) none in
     rw (read_told told)
     (ap (λ (l : List ℕ). l ++ new) no_front ∙ read_over (data_in told) buffer new (is ∙ ap (unwrap_or (data_in told)) all_room) (same ∙ ap length all_room))
+
+front_over : (read : Option (List ℕ)) (buffer front new : List ℕ) (room : ℕ) → front ≡ take room buffer → room ≤ length buffer
+    → new ≡ unwrap_or read front → length new ≡ length front → new ++ drop room buffer ≡ overwritten (unwrap_or read []) buffer
+front_over None buffer front new room front_is le is same =
+    ap (λ (l : List ℕ). l ++ drop room buffer) (is ∙ front_is) ∙ take-append-drop room buffer ∙ over_none buffer
+front_over (Some bytes) buffer front new room front_is le is same =
+    let long : length bytes ≡ room = sym (ap length is) ∙ same ∙ ap length front_is ∙ length-take-le room buffer le in
+    ap (λ (l : List ℕ). l ++ drop room buffer) is ∙ ap (λ (n : ℕ). bytes ++ drop n buffer) (sym long)
+    ∙ ap (λ (l : List ℕ). l ++ drop (length bytes) buffer) (sym (take_all (length buffer) bytes (omega (arith, long, le))))
+
+-- The buffer whose front a job that was done at once had.
+pub front_told : (told : Completions) (buffer front new : List ℕ) (room : ℕ) → front ≡ take room buffer → room ≤ length buffer
+    → new ≡ unwrap_or (data_in told) front → length new ≡ length front → new ++ drop room buffer ≡ overwritten (read_by told) buffer
+front_told told buffer front new room front_is le is same =
+    rw (read_told told) (front_over (data_in told) buffer front new room front_is le is same)
+
+-- The completions' entries are as many whatever the data is.
+pub posted_of_fields : (fields : BodyFields) (payload compared lent also : List ℕ) → posted_length (body_lent fields payload compared) ≡ posted_length (body_lent fields lent also)
+posted_of_fields (fields.Single alone) payload compared lent also = refl
+posted_of_fields (fields.Pair compare write) payload compared lent also = refl

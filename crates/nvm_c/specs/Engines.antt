@@ -7,8 +7,8 @@ use Rattle.nvm_unit.specs.Ends.{views_of}
 use Rattle.nvm_unit.specs.declared.views.PassView.{PassView}
 use Rattle.nvm_space.specs.Ports.{PortState, IsPortOf}
 use Rattle.nvm_space.specs.Spaces.{SpaceName}
-use Rattle.nvm_space.specs.UnderWay.{IsUnderWay}
 use Rattle.nvm_c.specs.Logs.{LogState, HasRoomIn, kept_by}
+use Rattle.nvm_c.specs.Pending.{HasBegun, IsUnrecorded, pending_job}
 use Rattle.nvm_c.specs.declared.engine.Engine.{Engine}
 use Rattle.nvm_c.specs.declared.engine.Pending.{Pending}
 use Rattle.nvm_c.specs.declared.log.Log.{Log}
@@ -36,12 +36,12 @@ state_of e = record { space = space_of e; port = e.port; number = e.number; pend
 abbrev pub seen_by : Engine → List PassView
 seen_by e = views_of e.port.passes
 
--- The job fits the namespace, and is under way since some earlier state of the port. There is room to keep it.
+-- The job fits the namespace, and has begun at some earlier state of the port. There is room to keep it.
 pub record CanGoOn (s : SpaceName) (p : Pending) (now : List PassView) (log : Option Log) : Type 0 where
-  pub fits : FitsNamespace s.namespace p.job
-  pub same : p.under_way.number ≡ p.number
+  pub fits : FitsNamespace s.namespace (pending_job p)
   pub room : HasRoomIn log
-  pub under_way : (start : List PassView) × IsUnderWay s.namespace s.lists p.job p.under_way start now
+  pub unrecorded : IsUnrecorded p (kept_by log)
+  pub begun : (start : List PassView) × HasBegun s p start now
 
 -- Its port is of its space, and one of 64. A job that is pending can be gone on with.
 pub record IsSound (e : Engine) : Type 0 where

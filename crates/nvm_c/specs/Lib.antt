@@ -1,5 +1,6 @@
 pub mod Codes
 pub mod Logs
+pub mod Pending
 pub mod Engines
 pub mod Held
 pub mod Opening
@@ -8,6 +9,7 @@ pub mod Refused
 pub mod Carried
 pub mod Told
 pub mod Submitted
+pub mod AtOnce
 pub mod Exports
 pub mod ReadNow
 pub mod Identify

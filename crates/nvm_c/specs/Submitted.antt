@@ -4,11 +4,11 @@ use Rattle.nvm_plan.specs.declared.job.Job.{Job}
 use Rattle.nvm_unit.specs.declared.views.PassView.{PassView}
 use Rattle.nvm_space.specs.Spaces.{SpaceName}
 use Rattle.nvm_space.specs.Trace.{DoesJob}
-use Rattle.nvm_space.specs.UnderWay.{UnderWay, IsUnderWay}
 use Rattle.nvm_space.specs.declared.job_done.JobDone.{JobDone}
 use Rattle.nvm_c.specs.Asked.{IsAsked}
 use Rattle.nvm_c.specs.Engines.{space_of, namespace_of, seen_by, state_of}
 use Rattle.nvm_c.specs.Logs.{LogState, HasDrawn, kept_by, with_kept}
+use Rattle.nvm_c.specs.Pending.{HasBegun, pending_job, pending_number}
 use Rattle.nvm_c.specs.Told.{AreTold}
 use Rattle.nvm_c.specs.declared.code.Code.{Code}
 use Rattle.nvm_c.specs.declared.code.Code.TheVariants.{Done, Pending, NotOpen, IsOpen, NoMemory, BadNamespace, BadPorts, BadLimit, BadLength, NoPair, Busy, Idle, Newer, OutOfRange, Crosses, NoVersions}
@@ -32,10 +32,11 @@ pub record IsDone (s : SpaceName) (number : ℕ) (job : Job) (start now : List P
 -- The job that began at `start` is pending, and C was told nothing.
 pub record IsPending (s : SpaceName) (number : ℕ) (job : Job) (start now : List PassView) (pending : Option PendingJob)
     (log log' : Option LogState) (old new : Buffers) : Type 0 where
-  pub under_way : UnderWay
-  pub same : under_way.number ≡ number
-  pub goes : IsUnderWay s.namespace s.lists job under_way start now
-  pub kept : pending ≡ Some (record { number = number; job = job; under_way = under_way })
+  pub held : PendingJob
+  pub kept : pending ≡ Some held
+  pub numbered : pending_number held ≡ number
+  pub of : pending_job held ≡ job
+  pub goes : HasBegun s held start now
   pub log_kept : log' ≡ log
   pub buffers : new ≡ old
 
@@ -71,8 +72,8 @@ pub record Begins (code : Code) (e e' : Engine) (entries : List ℕ) (old new : 
 
 -- The pending job was gone on with, whatever state of the port it began at.
 pub record GoesOn (code : Code) (e e' : Engine) (p : PendingJob) (old new : Buffers) : Type 0 where
-  pub progress : (start : List PassView) → IsUnderWay (namespace_of e) (space_of e).lists p.job p.under_way start (seen_by e)
-      → Progresses code (space_of e) p.number p.job start (seen_by e') e'.pending (kept_by e.log) (kept_by e'.log) old new
+  pub progress : (start : List PassView) → HasBegun (space_of e) p start (seen_by e)
+      → Progresses code (space_of e) (pending_number p) (pending_job p) start (seen_by e') e'.pending (kept_by e.log) (kept_by e'.log) old new
   pub space : space_of e' ≡ space_of e
   pub number : e'.number ≡ e.number
 

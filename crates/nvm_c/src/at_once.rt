@@ -1,19 +1,31 @@
 //! Jobs that are done as they are submitted: a command by itself, or a fused pair, that lies in one unit which is free.
-ghost use Rattle.std.specs.Prelude.{◌≡◌, ◌⊎◌, ◌+◌, ◌-◌, ◌*◌, ◌<◌, ◌≤◌, ℕ, List, [], IsTrue, None, false, length, slice_range, take};
+ghost use Rattle.std.specs.Prelude.{◌≡◌, ◌⊎◌, ◌+◌, ◌*◌, ◌<◌, ◌≤◌, ℕ, List, [], IsTrue, None, false, length, slice_range, take};
 ghost use Rattle.std.specs.Bool.{OnTrue};
 ghost use Rattle.nvm_record.specs.Entry.{data_length};
 ghost use Rattle.nvm_record.specs.Op.{carries_ranges};
+ghost use Rattle.nvm_store.specs.Answer.{IsRoomFor};
+ghost use Rattle.nvm_store.specs.Place.{IsCovered};
+ghost use Rattle.nvm_store.specs.declared.place.Place.{Place as UnitPlace};
 ghost use Rattle.nvm_plan.specs.Completions.{completions_of};
 ghost use Rattle.nvm_plan.specs.Profile.{IsFusedPair};
-ghost use Rattle.nvm_plan.specs.Fits.{IsWholeBody};
-ghost use Rattle.nvm_plan.specs.OnlyPart.{body_lent, command_lent};
+ghost use Rattle.nvm_plan.specs.Fits.{FitsNamespace, IsWholeBody};
+ghost use Rattle.nvm_plan.specs.LentPart.{part_operation_of};
+ghost use Rattle.nvm_plan.specs.OnlyPart.{IsOnlyPart, body_lent, command_lent};
 ghost use Rattle.nvm_plan.specs.Shape.{IsForEach};
+ghost use Rattle.nvm_plan.specs.UnitPlace.{IsUnitPlace};
+ghost use Rattle.nvm_unit.specs.Ends.{views_of};
+ghost use Rattle.nvm_unit.specs.declared.views.PassView.{PassView};
 ghost use Rattle.nvm_space.specs.Ports.{IsPortOf};
+ghost use Rattle.nvm_space.specs.UnderWay.{MayHaveWaited};
 ghost use Rattle.nvm_c.specs.Asked as spec;
+ghost use Rattle.nvm_c.specs.Asked.{IsAsked};
+ghost use Rattle.nvm_c.specs.AtOnce.{IsToldAtOnce};
 ghost use Rattle.nvm_c.specs.Engines.{IsSound, namespace_of, seen_by, space_of};
 ghost use Rattle.nvm_c.specs.Logs.{HasRoomIn, kept_by};
+ghost use Rattle.nvm_c.specs.Pending.{HasBegun, waiting_job};
 ghost use Rattle.nvm_c.specs.Submitted.{Progresses, Submits};
 ghost use Rattle.nvm_c.specs.Told.{posted_length};
+ghost use Rattle.nvm_c.specs.declared.engine.Pending.TheVariants.{Waiting};
 
 use crate::asking::{plain_fields, reads, room};
 use crate::code::Code;
@@ -21,10 +33,11 @@ use crate::engine::{Engine, Pending, told_statuses_fit_their_entries};
 use crate::log::draw;
 use crate::quiet::Quiet;
 use crate::telling::tell;
-use crate::waiting::{WaitingJob, room_of};
-use nvm_plan::{BodyFields, Completions};
+use crate::waiting::WaitingJob;
+use nvm_plan::{BodyFields, Completions, LentPart};
 use nvm_record::{BlockSize, Completion, EntryFields, Fuse, Op, PayloadRef, Status, Statuses};
-use nvm_space::JobDone;
+use nvm_space::{JobDone, Port, Space};
+use nvm_unit::Count;
 use std::alloc::Global;
 
 impl Engine {
@@ -144,7 +157,6 @@ impl Engine {
         ensures submits { Submits result self.old self.new entries.now
             (record { bytes = data.old; posted = posted.old }) (record { bytes = data.new; posted = posted.new }) }
     {
-        told_statuses_fit_their_entries();
         let (front, room) = data.split_at_mut(sent);
         let (compared, payload) = front.split_at(called);
         let only = self.space.only_part(
@@ -162,86 +174,128 @@ impl Engine {
         let Ok(number) = draw(&mut self.number, &mut self.log) else {
             return Code::NoMemory;
         };
-        let polled = self.space.poll_only_part(
+        if done_at_once(
             alloc,
+            &self.space,
             &mut self.port,
             number,
+            host,
+            fields,
             unit,
             part,
             room,
-            &Quiet,
-        );
-        match polled {
-            Some(statuses) => {
-                let done = job_done(alloc, host, fields, statuses);
-                tell(&done.completions, &mut [], posted);
-                Code::Done
-            }
-            None => {
-                let data = self.spare.keep(alloc, payload, compared);
-                self.pending = Some(Pending::Waiting(WaitingJob {
-                    number,
-                    host,
-                    fields,
-                    data,
-                }));
-                Code::Pending
-            }
+            posted,
+        ) {
+            return Code::Done;
         }
+        let data = self.spare.keep(alloc, payload, compared);
+        self.pending = Some(Pending::Waiting(WaitingJob {
+            number,
+            host,
+            fields,
+            data,
+        }));
+        Code::Pending
     }
 
-    /// Tries the only part of a job again, which isn't in `pending`.
-    pub(crate) fn go_on_waiting(
+    /// Tries the only part of a job again, which isn't in `pending`. It reads into the front of the data, up to place `room`.
+    pub(crate) fn try_again(
         &mut self,
         alloc: Global,
         waiting: WaitingJob,
+        room: usize,
         data: &mut [u8],
         posted: &mut [u8],
-    ) -> Code {
-        told_statuses_fit_their_entries();
+    ) -> Code
+        requires of { IsPortOf (space_of self.old) self.old.port }
+        requires few { self.old.port.number < 64 }
+        requires idle { self.old.pending ≡ None }
+        requires fits { FitsNamespace (namespace_of self.old) (waiting_job waiting) }
+        requires log { HasRoomIn self.old.log }
+        requires unrecorded { kept_by self.old.log ≡ None }
+        requires begun { (start : List PassView) × HasBegun (space_of self.old) (Waiting waiting) start (seen_by self.old) }
+        requires room { room ≤ length data.old }
+        requires posted { length posted.old ≡ posted_length (waiting_job waiting).body }
+        ensures sound { IsSound self.new }
+        ensures space { space_of self.new ≡ space_of self.old }
+        ensures number { self.new.number ≡ self.old.number }
+        ensures progress { (start : List PassView) → HasBegun (space_of self.old) (Waiting waiting) start (seen_by self.old)
+            → Progresses result (space_of self.old) waiting.number (waiting_job waiting) start (seen_by self.new) self.new.pending
+            (kept_by self.old.log) (kept_by self.new.log)
+            (record { bytes = data.old; posted = posted.old }) (record { bytes = data.new; posted = posted.new }) }
+    {
         let WaitingJob {
             number,
             host,
             fields,
             data: kept,
         } = waiting;
-        let (room, _) = data.split_at_mut(room_of(fields, self.space.geometry().block_size()));
-        let only = self.space.only_part(
-            fields,
-            PayloadRef::of(&kept.payload),
-            PayloadRef::of(&kept.compared),
-            room,
-        );
-        let polled = match only {
-            Some((unit, part)) => self.space.poll_only_part(
+        let (room, _) = data.split_at_mut(room);
+        let payload = PayloadRef::of(&kept.payload);
+        let compared = PayloadRef::of(&kept.compared);
+        if let Some((unit, part)) = self.space.only_part(fields, payload, compared, room) {
+            if done_at_once(
                 alloc,
+                &self.space,
                 &mut self.port,
                 number,
+                host,
+                fields,
                 unit,
                 part,
                 room,
-                &Quiet,
-            ),
-            None => None,
-        };
-        match polled {
-            Some(statuses) => {
-                let done = job_done(alloc, host, fields, statuses);
-                tell(&done.completions, &mut [], posted);
+                posted,
+            ) {
                 self.spare = kept;
-                Code::Done
-            }
-            None => {
-                self.pending = Some(Pending::Waiting(WaitingJob {
-                    number,
-                    host,
-                    fields,
-                    data: kept,
-                }));
-                Code::Pending
+                return Code::Done;
             }
         }
+        self.pending = Some(Pending::Waiting(WaitingJob {
+            number,
+            host,
+            fields,
+            data: kept,
+        }));
+        Code::Pending
     }
+}
+
+/// Does the only part of a job, tells C of it, and says whether it did. It doesn't where the unit wasn't to be had.
+#[inline(always)]
+fn done_at_once(
+    alloc: Global,
+    space: &Space<Count>,
+    port: &mut Port<Count>,
+    number: u32,
+    host: u16,
+    fields: BodyFields,
+    unit: u16,
+    part: LentPart<'_>,
+    room: &mut [u8],
+    posted: &mut [u8],
+) -> bool
+    requires of { IsPortOf space.now port.old }
+    requires unlisted { space.now.lists ≡ false }
+    requires only { (payload compared : List ℕ)
+        × IsOnlyPart space.now.namespace (record { host = host; body = body_lent fields payload compared }) unit (part_operation_of part) }
+    requires covered { (place : UnitPlace) → IsUnitPlace space.now.namespace unit place → IsCovered place (part_operation_of part) }
+    requires room { IsRoomFor (part_operation_of part) space.now.namespace.block_size room.old }
+    requires posted { (payload compared : List ℕ) → length posted.old ≡ posted_length (body_lent fields payload compared) }
+    ensures of { IsPortOf space.now port.new }
+    ensures number { port.new.number ≡ port.old.number }
+    ensures goes { (payload compared : List ℕ) (start : List PassView)
+        → IsOnlyPart space.now.namespace (record { host = host; body = body_lent fields payload compared }) unit (part_operation_of part.entry)
+        → MayHaveWaited unit start (views_of port.old.passes)
+        → IsToldAtOnce result space.now number (record { host = host; body = body_lent fields payload compared }) unit start
+            (views_of port.new.passes) (record { bytes = room.old; posted = posted.old }) (record { bytes = room.new; posted = posted.new }) }
+{
+    told_statuses_fit_their_entries();
+    let Some(statuses) = space.poll_only_part(alloc, port, number, unit, part, room, &Quiet) else {
+        return false;
+    };
+    let done = job_done(alloc, host, fields, statuses);
+    tell(&done.completions, &mut [], posted);
+    true
 }
 
 /// Whether they are a Compare and a Write that are the first and the second of a fused pair.

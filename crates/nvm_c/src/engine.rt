@@ -12,6 +12,7 @@ ghost use Rattle.nvm_space.specs.declared.job_done.JobDone.{JobDone as Told};
 ghost use Rattle.nvm_c.specs.Asked.{IsAsked};
 ghost use Rattle.nvm_c.specs.Engines.{IsSound, namespace_of, seen_by, space_of};
 ghost use Rattle.nvm_c.specs.Logs.{HasRoomIn, kept_by};
+ghost use Rattle.nvm_c.specs.Pending.{pending_job};
 ghost use Rattle.nvm_c.specs.Submitted.{Polls, Progresses, Submits};
 ghost use Rattle.nvm_c.specs.Told.{FitEntries, posted_length, told_length};
 
@@ -192,26 +193,26 @@ impl Engine {
         ensures polls { Polls result self.old self.new
             (record { bytes = data.old; posted = posted.old }) (record { bytes = data.new; posted = posted.new }) }
     {
-        let size = self.space.geometry().block_size();
-        let (entries, room) = match &self.pending {
-            None => return Code::Idle,
-            Some(Pending::UnderWay { job, .. }) => (entries_length(job), room_of_job(job, size)),
-            Some(Pending::Waiting(waiting)) => (waiting.entries_length(), waiting.room(size)),
+        let Some(pending) = &self.pending else {
+            return Code::Idle;
         };
-        if posted.len() != entries || data.len() < room {
+        let room = pending.room(self.space.geometry().block_size());
+        if posted.len() != pending.entries_length() || data.len() < room {
             return Code::BadLength;
         }
-        match self.pending.take() {
-            None => unreachable!("a job is pending"),
-            Some(Pending::UnderWay {
+        let Some(taken) = self.pending.take() else {
+            unreachable!("a job is pending")
+        };
+        match taken {
+            Pending::UnderWay {
                 number,
                 job,
                 under_way,
-            }) => {
+            } => {
                 let mut held = Some(job);
                 self.go_on(alloc, number, &mut held, under_way, data, posted)
             }
-            Some(Pending::Waiting(waiting)) => self.go_on_waiting(alloc, waiting, data, posted),
+            Pending::Waiting(waiting) => self.try_again(alloc, waiting, room, data, posted),
         }
     }
 
@@ -272,11 +273,26 @@ impl Engine {
     }
 }
 
-/// How many bytes the job reads, if it succeeds.
-fn room_of_job(job: &Job, size: BlockSize) -> usize {
-    match &job.body {
-        Body::Single(command) => room(command.op, command.nlb, size),
-        Body::Pair(_, _) => 0,
+impl Pending {
+    /// How many bytes the job's completion entries are.
+    fn entries_length(&self) -> usize
+        ensures { result ≡ posted_length (pending_job self.now).body }
+    {
+        match self {
+            Pending::UnderWay { job, .. } => entries_length(job),
+            Pending::Waiting(waiting) => waiting.entries_length(),
+        }
+    }
+
+    /// How many bytes the job reads, if it succeeds.
+    fn room(&self, size: BlockSize) -> usize {
+        match self {
+            Pending::UnderWay { job, .. } => match &job.body {
+                Body::Single(command) => room(command.op, command.nlb, size),
+                Body::Pair(_, _) => 0,
+            },
+            Pending::Waiting(waiting) => waiting.room(size),
+        }
     }
 }
 

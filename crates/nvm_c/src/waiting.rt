@@ -1,4 +1,9 @@
 //! A job that waits for the unit of its only part, and its data.
+ghost use Rattle.std.specs.Prelude.{◌≡◌, ◌≤◌, length};
+ghost use Rattle.std.specs.Bool.{OnTrue};
+ghost use Rattle.nvm_c.specs.Pending.{waiting_job};
+ghost use Rattle.nvm_c.specs.Told.{posted_length};
+
 use crate::asking::room;
 use nvm_plan::BodyFields;
 use nvm_record::BlockSize;
@@ -32,12 +37,20 @@ impl JobData {
 
     /// Makes room for data of these lengths, and says whether there was memory for that.
     #[inline(always)]
-    pub(crate) fn make_room(&mut self, payload: usize, compared: usize) -> bool {
+    pub(crate) fn make_room(&mut self, payload: usize, compared: usize) -> bool
+        ensures payload { OnTrue result (payload ≤ length self.new.payload.items) }
+        ensures compared { OnTrue result (compared ≤ length self.new.compared.items) }
+    {
         make_room(&mut self.payload, payload) && make_room(&mut self.compared, compared)
     }
 
-    /// This data, for which room was made, in memory that goes with it. It takes none.
-    pub(crate) fn keep(&mut self, alloc: Global, payload: &[u8], compared: &[u8]) -> JobData {
+    /// This data, for which room was made, in the memory that was made. It takes none.
+    pub(crate) fn keep(&mut self, alloc: Global, payload: &[u8], compared: &[u8]) -> JobData
+        requires payload { length payload.now ≤ length self.old.payload.items }
+        requires compared { length compared.now ≤ length self.old.compared.items }
+        ensures payload { result.payload.items ≡ payload.now }
+        ensures compared { result.compared.items ≡ compared.now }
+    {
         let mut kept = replace(self, JobData::new(alloc));
         kept.payload.truncate(payload.len());
         kept.payload.copy_from_slice(payload);
@@ -49,7 +62,9 @@ impl JobData {
 
 /// Makes the memory at least this long, and says whether there was some for that.
 #[inline(always)]
-fn make_room(spare: &mut Vec<u8>, len: usize) -> bool {
+fn make_room(spare: &mut Vec<u8>, len: usize) -> bool
+    ensures { OnTrue result (len ≤ length spare.new.items) }
+{
     if spare.len() >= len {
         return true;
     }
@@ -58,7 +73,9 @@ fn make_room(spare: &mut Vec<u8>, len: usize) -> bool {
 
 impl WaitingJob {
     /// How many bytes its completion entries are.
-    pub(crate) fn entries_length(&self) -> usize {
+    pub(crate) fn entries_length(&self) -> usize
+        ensures { result ≡ posted_length (waiting_job self.now).body }
+    {
         match self.fields {
             BodyFields::Single(_) => 16,
             BodyFields::Pair(_, _) => 32,
@@ -67,14 +84,9 @@ impl WaitingJob {
 
     /// How many bytes it reads, if it succeeds.
     pub(crate) fn room(&self, size: BlockSize) -> usize {
-        room_of(self.fields, size)
-    }
-}
-
-/// How many bytes a job of entries with these fields reads, if it succeeds.
-pub(crate) fn room_of(fields: BodyFields, size: BlockSize) -> usize {
-    match fields {
-        BodyFields::Single(alone) => room(alone.op, alone.nlb, size),
-        BodyFields::Pair(_, _) => 0,
+        match self.fields {
+            BodyFields::Single(alone) => room(alone.op, alone.nlb, size),
+            BodyFields::Pair(_, _) => 0,
+        }
     }
 }

@@ -1,8 +1,6 @@
 -- What is reported about the only part of a job is its outcome.
-use Rattle.std.proofs.Common.{◌≡◌, ◌↔◌, ◌⊎◌, inl, inr, ℕ, ◌+◌, ◌<◌, Bool, true, false, IsTrue, List, [], ◌∷◌, ◌++◌, Option, Some, None, IsSome, unwrap_or, if◌then◌else◌, refl, sym, ap, ◌∙◌, subst, arith}
-use Rattle.std.specs.Prelude.{filter, nat_le}
+use Rattle.std.proofs.Common.{◌≡◌, ◌↔◌, ◌⊎◌, inl, inr, ℕ, ◌<◌, Bool, true, false, IsTrue, List, [], ◌∷◌, ◌++◌, Option, Some, None, IsSome, unwrap_or, if◌then◌else◌, refl, sym, ap, ◌∙◌, subst, arith}
 use Rattle.std.specs.List.{Contains}
-use Rattle.std.proofs.lemmas.Bool.{lt-leb}
 use Rattle.nvm_record.specs.declared.status.Status.{Status}
 use Rattle.nvm_record.specs.declared.status.Statuses.{Statuses}
 use Rattle.nvm_record.specs.declared.status.Statuses.TheVariants.{One, Two}
@@ -69,12 +67,6 @@ module _ (ns : Namespace) (op : Operation) (r : Reply) where
   outcome_of_one more whole stopped read begun reply (inr failure) =
       let none : r.payload ≡ None = none_there r.payload (λ some. failure (reply.payload.0 some).1) in
       subst (λ (p : Option (List ℕ)). IsOutcomeOf ns op (r ∷ []) r.statuses p) (sym none) (stopped begun reply failure)
-
--- Behind the only unit there is none.
-pub none_behind : (units : List ℕ) (unit : ℕ) → units ≡ unit ∷ [] → filter (λ u. nat_le (unit + 1) u) units ≡ []
-none_behind units unit is =
-    ap (λ (us : List ℕ). filter (λ u. nat_le (unit + 1) u) us) is
-    ∙ ap (λ (b : Bool). if b then unit ∷ [] else []) (lt-leb (unit + 1) unit (omega arith))
 
 -- The only unit is one of the namespace's.
 pub only_known : (ns : Namespace) (job : Job) (unit : ℕ) (part : Operation)

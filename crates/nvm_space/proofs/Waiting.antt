@@ -45,3 +45,8 @@ part_after_waiting unit did reached now new makes observes waited becomes =
     goes : (p q r : PassView) → Waits p q → DoesPart did q r → DoesPart did p r
     goes p q r waits (inl change) = inl (change.0, change.1, makes change.1 p q r did.job did.operation waits change.2, change.3)
     goes p q r waits (inr look) = inr (look.0, look.1, observes look.1 p q r did.operation waits look.2, look.3)
+
+-- A pass that waits again has waited.
+pub waited_again : (unit : ℕ) (start now new : List PassView) → ((p q r : PassView) → Waits p q → Waits q r → Waits p r)
+    → MayHaveWaited unit start now → BecomesAt unit Waits now new → MayHaveWaited unit start new
+waited_again unit start now new again waited becomes = inr (after_waiting unit Waits start now new again waited becomes)

@@ -1,8 +1,10 @@
 -- What became of a job that was to be done at once (own).
 use Rattle.std.specs.Prelude.{◌≡◌, ℕ, false, List, [], Option, Some, None, unwrap_or}
+use Rattle.nvm_record.specs.Step.{Operation}
 use Rattle.nvm_record.specs.declared.status.Statuses.{Statuses}
 use Rattle.nvm_geometry.specs.Namespace.{Namespace}
 use Rattle.nvm_plan.specs.Completions.{completions_of, data_in}
+use Rattle.nvm_plan.specs.OnlyPart.{IsOnlyPart}
 use Rattle.nvm_plan.specs.Shape.{IsForEach}
 use Rattle.nvm_plan.specs.declared.job.Job.{Job}
 use Rattle.nvm_unit.specs.declared.views.PassView.{PassView}
@@ -22,3 +24,10 @@ pub record IsDoneAtOnce (ns : Namespace) (number : ℕ) (job : Job) (start now :
 abbrev pub IsAtOnce : Namespace → ℕ → Job → ℕ → List PassView → List PassView → List ℕ → List ℕ → Option Statuses → Type 0
 IsAtOnce ns number job unit start now old new (Some statuses) = IsDoneAtOnce ns number job start now old new statuses
 IsAtOnce ns number job unit start now old new None = (new ≡ old) × MayHaveWaited unit start now
+
+-- No check refuses the job, and it has one part. Since `start` the port did nothing but find, perhaps, that it couldn't have its unit.
+pub record IsWaiting (ns : Namespace) (job : Job) (start now : List PassView) : Type 0 where
+  pub unit : ℕ
+  pub part : Operation
+  pub only : IsOnlyPart ns job unit part
+  pub waited : MayHaveWaited unit start now

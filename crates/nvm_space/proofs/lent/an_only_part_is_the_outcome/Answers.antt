@@ -1,18 +1,16 @@
-use Rattle.std.proofs.Common.{◌≡◌, ℕ, ◌+◌, List, [], ◌∷◌, false, inr, refl, sym, ap, ◌∙◌, subst}
-use Rattle.nvm_plan.specs.JobPart.{job_part_in, job_units, job_units_from}
+use Rattle.std.proofs.Common.{ℕ, List, [], ◌∷◌, refl, sym, ap, ◌∙◌, subst}
+use Rattle.nvm_plan.specs.JobPart.{job_part_in}
 use Rattle.nvm_plan.specs.Outcome.{AreDone, IsOutcome}
 use Rattle.nvm_plan.specs.Reply.{IsReplyTo}
 use Rattle.nvm_space.specs.Inside.Parts.{part_done}
 use Rattle.nvm_space.specs.Trace.{DoesPart}
-use Rattle.nvm_space.specs.UnderWay.{IsUnderWay, UnderWay}
 use Rattle.nvm_space.specs.Visits.{BecomesAt}
-use Rattle.nvm_space.proofs.OnlyParts.{none_behind, outcome_of_one, success_or_not}
-use Rattle.nvm_space.proofs.PartByPart.{not_begun}
+use Rattle.nvm_space.proofs.OnlyParts.{outcome_of_one, success_or_not}
 use Rattle.nvm_space.proofs.PartReplies.{data_alike, part_replies, two_read_none}
 use Rattle.nvm_space.proofs.lent.an_only_part_is_the_outcome.Goals as goal
 
-pub returns-clause-done : goal.returns-clause-done
-returns-clause-done c = λ ns number job unit part r ok start now old only at becomes is_ok.
+pub returns : goal.returns
+returns c = λ ns number job unit part r ok start now old only at becomes is_ok.
     let known = c.parts_of_jobs.ensures.known ns job unit part only.in_unit in
     let op = known.1 in
     let reply : IsReplyTo op.deed r =
@@ -43,25 +41,3 @@ returns-clause-done c = λ ns number job unit part r ok start now old only at be
         listed = none;
       };
     }
-
-pub returns-clause-pending : goal.returns-clause-pending
-returns-clause-pending c = λ ns number job unit part w start now only same waits.
-    let known = c.parts_of_jobs.ensures.known ns job unit part only.in_unit in
-    let op = known.1 in
-    let fresh : UnderWay = record { number = number; unit = unit; parts = []; bytes = []; room = w.room } in
-    let units = sym (c.parts_of_jobs.ensures.units ns job op known.0 known.2) ∙ only.units in
-    let behind : job_units_from ns job (unit + 1) ≡ [] = none_behind (job_units ns job) unit only.units in
-    let begun : AreDone ns op [] (unit ∷ job_units_from ns job (unit + 1)) =
-    subst (λ (us : List ℕ). AreDone ns op [] us) (units ∙ ap (λ (us : List ℕ). unit ∷ us) (sym behind)) (c.outcomes_are_made_part_by_part.ensures.begun ns op) in
-    subst (λ (x : UnderWay). (x.number ≡ number) × IsUnderWay ns false job x start now) (sym same) (
-      refl,
-      record {
-        free = known.0;
-        op = op;
-        is_op = known.2;
-        reached = start;
-        have = not_begun ns false number job op start (unit ∷ job_units_from ns job (unit + 1)) [] [] begun refl refl;
-        waited = inr waits;
-        room = λ on. absurd (let bad = on in cc bad);
-      },
-    )
