@@ -1,10 +1,11 @@
 -- What a job that is done at once leaves.
 use Rattle.std.proofs.Common.{◌≡◌, ◌⊎◌, inl, inr, ◌∙◌, ℕ, ◌+◌, ◌-◌, ◌<◌, ◌≤◌, List, [], ◌∷◌, ◌++◌, length, take, drop, slice_range, Option, None, Some, unwrap_or, append-nil, refl, sym, ap, subst, arith}
 use Rattle.std.proofs.lemmas.List.{drop-take, length-drop, length-take-le, take-append-drop, take-take, take_all}
+use Rattle.nvm_record.specs.Step.{Operation}
 use Rattle.nvm_record.specs.declared.status.Statuses.{Statuses}
 use Rattle.nvm_geometry.specs.Namespace.{Namespace}
 use Rattle.nvm_plan.specs.Fits.{FitsNamespace, IsWholeBody}
-use Rattle.nvm_plan.specs.OnlyPart.{body_lent}
+use Rattle.nvm_plan.specs.OnlyPart.{IsOnlyPart, body_lent}
 use Rattle.nvm_plan.specs.Completions.{body_completions, data_in}
 use Rattle.nvm_plan.specs.declared.body_fields.BodyFields.{BodyFields}
 use Rattle.nvm_plan.specs.declared.body_fields.BodyFields.TheVariants as fields
@@ -13,6 +14,9 @@ use Rattle.nvm_plan.specs.declared.completions.Completions.TheVariants.{One, Two
 use Rattle.nvm_plan.specs.declared.job.Body.{Body}
 use Rattle.nvm_plan.specs.declared.job.Body.TheVariants.{Pair, Single}
 use Rattle.nvm_plan.specs.declared.job.Job.{Job}
+use Rattle.nvm_unit.specs.declared.views.PassView.{PassView}
+use Rattle.nvm_space.specs.AtOnce.{IsWaiting}
+use Rattle.nvm_space.specs.UnderWay.{MayHaveWaited}
 use Rattle.nvm_space.specs.declared.job_done.JobDone.{JobDone}
 use Rattle.nvm_c.specs.Logs.{HasDrawn, LogState, kept_by, with_kept}
 use Rattle.nvm_c.specs.Told.{FitEntries, all_posted, overwritten, posted_length, read_by}
@@ -33,7 +37,7 @@ pub body_fits : (ns : Namespace) (host : ℕ) (body : Body) (port : ℕ) → hos
 body_fits ns host body port is few whole = record { host = omega (arith, is); host_end = omega (arith, is, few); body = whole }
 
 -- Data that is lent is what it is lent of.
-lent_as : (fields : BodyFields) {payload compared lent also : List ℕ} → lent ≡ payload → also ≡ compared → body_lent fields payload compared ≡ body_lent fields lent also
+pub lent_as : (fields : BodyFields) {payload compared lent also : List ℕ} → lent ≡ payload → also ≡ compared → body_lent fields payload compared ≡ body_lent fields lent also
 lent_as fields {payload} {compared} {lent} {also} is is_too =
     ap (λ (bytes : List ℕ). body_lent fields bytes compared) (sym is) ∙ ap (body_lent fields lent) (sym is_too)
 
@@ -138,3 +142,19 @@ front_told told buffer front new room front_is le is same =
 pub posted_of_fields : (fields : BodyFields) (payload compared lent also : List ℕ) → posted_length (body_lent fields payload compared) ≡ posted_length (body_lent fields lent also)
 posted_of_fields (fields.Single alone) payload compared lent also = refl
 posted_of_fields (fields.Pair compare write) payload compared lent also = refl
+
+-- The job of data that is kept is that of the data that was lent.
+pub job_kept : (host : ℕ) (fields : BodyFields) (buffer : List ℕ) (called sent : ℕ) {front part back payload compared : List ℕ} → called ≤ sent → front ≡ take sent buffer
+    → part ≡ take called front → back ≡ drop called front → payload ≡ back → compared ≡ part
+    → (let j : Job = record { host = host; body = body_lent fields (slice_range buffer called sent) (take called buffer) } in j)
+        ≡ (let j : Job = record { host = host; body = body_lent fields payload compared } in j)
+job_kept host fields buffer called sent le front_is part_is back_is is is_too =
+    ap (λ (body : Body). (let j : Job = record { host = host; body = body } in j)) (lent_of fields buffer called sent le front_is part_is back_is is is_too)
+
+-- A job has one only unit.
+pub waits_for_it : (ns : Namespace) (job : Job) (unit : ℕ) (part : Operation) (start now : List PassView) → IsOnlyPart ns job unit part → (waiting : IsWaiting ns job start now)
+    → MayHaveWaited unit start now
+waits_for_it ns job unit part start now only waiting =
+    let both : waiting.unit ∷ [] ≡ unit ∷ [] = sym waiting.only.units ∙ only.units in
+    let same : waiting.unit ≡ unit = cc both in
+    subst (λ (u : ℕ). MayHaveWaited u start now) same waiting.waited

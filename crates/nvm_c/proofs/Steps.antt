@@ -1,8 +1,8 @@
 -- What a code says of a job that was gone on with, by the code alone.
 use Rattle.std.proofs.Common.{◌≡◌, List, ℕ, Option, Some, None, IfSome, subst, sym}
 use Rattle.nvm_unit.specs.declared.views.PassView.{PassView}
-use Rattle.nvm_space.specs.UnderWay.{IsUnderWay}
-use Rattle.nvm_c.specs.Engines.{namespace_of, seen_by, space_of}
+use Rattle.nvm_c.specs.Engines.{seen_by, space_of}
+use Rattle.nvm_c.specs.Pending.{HasBegun}
 use Rattle.nvm_c.specs.Submitted.{Buffers, Begins, GoesOn, Polls, Submits}
 use Rattle.nvm_c.specs.declared.code.Code.{Code}
 use Rattle.nvm_c.specs.declared.code.Code.TheVariants.{Done, Pending, NotOpen, IsOpen, NoMemory, BadNamespace, BadPorts, BadLimit, BadLength, NoPair, Busy, Idle, Newer, OutOfRange, Crosses, NoVersions}
@@ -37,21 +37,21 @@ submits_of Crosses e e' entries old new none begins = absurd begins.progress
 submits_of NoVersions e e' entries old new none begins = absurd begins.progress
 
 module _ (e e' : Engine) (p : PendingJob) (old new : Buffers) (is : e.pending ≡ Some p)
-    (under : (start : List PassView) × IsUnderWay (namespace_of e) (space_of e).lists p.job p.under_way start (seen_by e)) where
+    (begun : (start : List PassView) × HasBegun (space_of e) p start (seen_by e)) where
   pub polls_of : (code : Code) → GoesOn code e e' p old new → Polls code e e' old new
   polls_of Done goes = (p, is, goes)
   polls_of Pending goes = (p, is, goes)
-  polls_of NotOpen goes = absurd (goes.progress under.0 under.1)
-  polls_of IsOpen goes = absurd (goes.progress under.0 under.1)
-  polls_of NoMemory goes = absurd (goes.progress under.0 under.1)
-  polls_of BadNamespace goes = absurd (goes.progress under.0 under.1)
-  polls_of BadPorts goes = absurd (goes.progress under.0 under.1)
-  polls_of BadLimit goes = absurd (goes.progress under.0 under.1)
-  polls_of BadLength goes = absurd (goes.progress under.0 under.1)
-  polls_of NoPair goes = absurd (goes.progress under.0 under.1)
-  polls_of Busy goes = absurd (goes.progress under.0 under.1)
-  polls_of Idle goes = absurd (goes.progress under.0 under.1)
-  polls_of Newer goes = absurd (goes.progress under.0 under.1)
-  polls_of OutOfRange goes = absurd (goes.progress under.0 under.1)
-  polls_of Crosses goes = absurd (goes.progress under.0 under.1)
-  polls_of NoVersions goes = absurd (goes.progress under.0 under.1)
+  polls_of NotOpen goes = absurd (goes.progress begun.0 begun.1)
+  polls_of IsOpen goes = absurd (goes.progress begun.0 begun.1)
+  polls_of NoMemory goes = absurd (goes.progress begun.0 begun.1)
+  polls_of BadNamespace goes = absurd (goes.progress begun.0 begun.1)
+  polls_of BadPorts goes = absurd (goes.progress begun.0 begun.1)
+  polls_of BadLimit goes = absurd (goes.progress begun.0 begun.1)
+  polls_of BadLength goes = absurd (goes.progress begun.0 begun.1)
+  polls_of NoPair goes = absurd (goes.progress begun.0 begun.1)
+  polls_of Busy goes = absurd (goes.progress begun.0 begun.1)
+  polls_of Idle goes = absurd (goes.progress begun.0 begun.1)
+  polls_of Newer goes = absurd (goes.progress begun.0 begun.1)
+  polls_of OutOfRange goes = absurd (goes.progress begun.0 begun.1)
+  polls_of Crosses goes = absurd (goes.progress begun.0 begun.1)
+  polls_of NoVersions goes = absurd (goes.progress begun.0 begun.1)

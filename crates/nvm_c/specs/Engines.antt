@@ -1,5 +1,5 @@
 -- What an engine is: a port of a space, and the job that is pending in it.
-use Rattle.std.specs.Prelude.{◌≡◌, ℕ, ◌<◌, List, Option, MatchOption}
+use Rattle.std.specs.Prelude.{ℕ, ◌<◌, List, Option, MatchOption}
 use Rattle.std.specs.Arc.{arc_value}
 use Rattle.nvm_geometry.specs.Namespace.{Namespace}
 use Rattle.nvm_plan.specs.Fits.{FitsNamespace}

@@ -157,9 +157,10 @@ impl Engine {
         ensures submits { Submits result self.old self.new entries.now
             (record { bytes = data.old; posted = posted.old }) (record { bytes = data.new; posted = posted.new }) }
     {
+        let space = &*self.space;
         let (front, room) = data.split_at_mut(sent);
         let (compared, payload) = front.split_at(called);
-        let only = self.space.only_part(
+        let only = space.only_part(
             fields,
             PayloadRef::of(payload),
             PayloadRef::of(compared),
@@ -176,7 +177,7 @@ impl Engine {
         };
         if done_at_once(
             alloc,
-            &self.space,
+            space,
             &mut self.port,
             number,
             host,
@@ -224,38 +225,34 @@ impl Engine {
             (kept_by self.old.log) (kept_by self.new.log)
             (record { bytes = data.old; posted = posted.old }) (record { bytes = data.new; posted = posted.new }) }
     {
-        let WaitingJob {
-            number,
-            host,
-            fields,
-            data: kept,
-        } = waiting;
+        let space = &*self.space;
         let (room, _) = data.split_at_mut(room);
-        let payload = PayloadRef::of(&kept.payload);
-        let compared = PayloadRef::of(&kept.compared);
-        if let Some((unit, part)) = self.space.only_part(fields, payload, compared, room) {
-            if done_at_once(
-                alloc,
-                &self.space,
-                &mut self.port,
-                number,
-                host,
-                fields,
-                unit,
-                part,
-                room,
-                posted,
-            ) {
-                self.spare = kept;
-                return Code::Done;
-            }
+        let only = space.only_part(
+            waiting.fields,
+            PayloadRef::of(&waiting.data.payload),
+            PayloadRef::of(&waiting.data.compared),
+            room,
+        );
+        let Some((unit, part)) = only else {
+            self.pending = Some(Pending::Waiting(waiting));
+            return Code::Pending;
+        };
+        if done_at_once(
+            alloc,
+            space,
+            &mut self.port,
+            waiting.number,
+            waiting.host,
+            waiting.fields,
+            unit,
+            part,
+            room,
+            posted,
+        ) {
+            self.spare = waiting.data;
+            return Code::Done;
         }
-        self.pending = Some(Pending::Waiting(WaitingJob {
-            number,
-            host,
-            fields,
-            data: kept,
-        }));
+        self.pending = Some(Pending::Waiting(waiting));
         Code::Pending
     }
 }
@@ -290,12 +287,14 @@ fn done_at_once(
             (views_of port.new.passes) (record { bytes = room.old; posted = posted.old }) (record { bytes = room.new; posted = posted.new }) }
 {
     told_statuses_fit_their_entries();
-    let Some(statuses) = space.poll_only_part(alloc, port, number, unit, part, room, &Quiet) else {
-        return false;
-    };
-    let done = job_done(alloc, host, fields, statuses);
-    tell(&done.completions, &mut [], posted);
-    true
+    match space.poll_only_part(alloc, port, number, unit, part, room, &Quiet) {
+        Some(statuses) => {
+            let done = job_done(alloc, host, fields, statuses);
+            tell(&done.completions, &mut [], posted);
+            true
+        }
+        None => false,
+    }
 }
 
 /// Whether they are a Compare and a Write that are the first and the second of a fused pair.

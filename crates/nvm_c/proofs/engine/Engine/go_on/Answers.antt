@@ -1,22 +1,24 @@
-use Rattle.std.proofs.Common.{◌≡◌, ◌∙◌, ℕ, ◌<◌, List, Some, length, ap, refl, sym, subst}
+use Rattle.std.proofs.Common.{◌≡◌, ◌∙◌, ℕ, ◌<◌, List, length, refl, sym, subst}
 use Rattle.std.proofs.lemmas.Option.{same_Some}
 use Rattle.nvm_plan.specs.Fits.{FitsNamespace}
 use Rattle.nvm_plan.specs.declared.job.Job.{Job}
 use Rattle.nvm_space.specs.Ports.{IsPortOf}
 use Rattle.nvm_space.specs.Spaces.{SpaceName}
 use Rattle.nvm_space.specs.Trace.{DoesJob}
-use Rattle.nvm_space.specs.UnderWay.{UnderWay, IsUnderWay}
+use Rattle.nvm_space.specs.UnderWay.{IsUnderWay}
+use Rattle.nvm_space.specs.UnderWay.{UnderWay as Way}
 use Rattle.nvm_unit.specs.Ends.{views_of}
 use Rattle.nvm_unit.specs.declared.views.PassView.{PassView}
 use Rattle.nvm_c.specs.Engines.{namespace_of, seen_by, space_of}
 use Rattle.nvm_c.specs.Logs.{kept_by, with_kept}
 use Rattle.nvm_c.specs.Told.{posted_length}
 use Rattle.nvm_c.specs.declared.engine.Engine.{Engine}
+use Rattle.nvm_c.specs.declared.engine.Pending.TheVariants.{UnderWay}
 use Rattle.nvm_c.proofs.Steps.{if_held, of_held}
 use Rattle.nvm_c.proofs.engine.Engine.go_on.Goals as goal
 
 -- The job is under way since some state of the port.
-abbrev Begun : Engine → UnderWay → Job → Type 0
+abbrev Begun : Engine → Way → Job → Type 0
 Begun e w job = (start : List PassView) × IsUnderWay (namespace_of e) (space_of e).lists job w start (seen_by e)
 
 pub tell-requires-clause-fit : goal.tell-requires-clause-fit
@@ -46,12 +48,15 @@ returns-in-Some-take-clause-sound c =
       few = subst (λ (n : ℕ). n < 64) (sym c.poll_job.ensures.number) c.requires.few;
       pending = record {
         fits = subst (FitsNamespace (namespace_of e)) taken (of_held (FitsNamespace (namespace_of e)) c.in-Some.is c.requires.fits);
-        same = goes.0 ∙ c.requires.same;
         room = c.requires.log;
-        under_way = (
+        unrecorded = tt;
+        begun = (
           under.0,
-          subst (λ (j : Job). IsUnderWay (namespace_of e) (space_of e).lists j c.in-Pending.under_way under.0 (views_of c.poll_job.new.port.passes)) taken
-              (subst (λ (s : SpaceName). IsUnderWay s.namespace s.lists job c.in-Pending.under_way under.0 (views_of c.poll_job.new.port.passes)) c.deref.ensures goes.1),
+          (
+            goes.0 ∙ c.requires.same,
+            subst (λ (j : Job). IsUnderWay (namespace_of e) (space_of e).lists j c.in-Pending.under_way under.0 (views_of c.poll_job.new.port.passes)) taken
+                (subst (λ (s : SpaceName). IsUnderWay s.namespace s.lists job c.in-Pending.under_way under.0 (views_of c.poll_job.new.port.passes)) c.deref.ensures goes.1),
+          ),
         );
       };
     }
@@ -76,10 +81,15 @@ returns-in-Some-take-clause-progress c = if_held _ c.in-Some.is (λ start under.
     let goes = c.in-Pending.ensures.goes start under' in
     let taken : c.in-Some-take.job ≡ job = same_Some _ _ (c.in-Some-take.ensures.value ∙ c.in-Some.is) in
     record {
-      under_way = c.in-Pending.under_way;
-      same = goes.0 ∙ c.requires.same;
-      goes = subst (λ (s : SpaceName). IsUnderWay s.namespace s.lists job c.in-Pending.under_way start (views_of c.poll_job.new.port.passes)) c.deref.ensures goes.1;
-      kept = ap (λ (j : Job). Some (record { number = c.args.number; job = j; under_way = c.in-Pending.under_way })) taken;
+      held = UnderWay c.args.number c.in-Some-take.job c.in-Pending.under_way;
+      kept = refl;
+      numbered = refl;
+      of = taken;
+      goes = (
+        goes.0 ∙ c.requires.same,
+        subst (λ (j : Job). IsUnderWay (namespace_of e) (space_of e).lists j c.in-Pending.under_way start (views_of c.poll_job.new.port.passes)) (sym taken)
+            (subst (λ (s : SpaceName). IsUnderWay s.namespace s.lists job c.in-Pending.under_way start (views_of c.poll_job.new.port.passes)) c.deref.ensures goes.1),
+      );
       log_kept = refl;
       buffers = refl;
     })

@@ -7,17 +7,14 @@ use Rattle.nvm_plan.specs.OnlyPart.{command_lent}
 use Rattle.nvm_plan.specs.declared.job.Body.TheVariants.{Single}
 use Rattle.nvm_plan.specs.declared.job.Job.{Job}
 use Rattle.nvm_space.specs.Spaces.{SpaceName}
-use Rattle.nvm_c.specs.Asked.{IsAsked, op_in, reads, sent_with}
+use Rattle.nvm_c.specs.Asked.{op_in, reads, sent_with}
 use Rattle.nvm_c.specs.Engines.{namespace_of}
-use Rattle.nvm_c.specs.Logs.{HasDrawn, kept_by}
-use Rattle.nvm_c.specs.Submitted.{Buffers}
 use Rattle.nvm_c.proofs.AtOnce.{back_slice}
-use Rattle.nvm_c.proofs.Steps.{submits_of}
 use Rattle.nvm_c.proofs.engine.Engine.submit_command.Goals as goal
 use Rattle.nvm_c.proofs.engine.Engine.submit_command.Goals.{else-reads, then-reads}
 
-pub returns-clause-submits : goal.returns-clause-submits
-returns-clause-submits c =
+pub submit_fields-requires-clause-asked : goal.submit_fields-requires-clause-asked
+submit_fields-requires-clause-asked c =
     let e = c.args.self.now in
     let entry = c.args.entry.now in
     let buffer = c.args.data.now in
@@ -37,9 +34,7 @@ returns-clause-submits c =
     ap length sent ∙ c.if-not-fits_buffer.ensures.sent ∙ ap (λ (n : ℕ). data_length n fields.op fields.nlb fields.nr) here in
     let also : payload ≡ sent_with (op_in entry) buffer = sent ∙ ap (λ (op : Op). sent_with op buffer) c.plain_fields-fields.ensures.op in
     let job : Job = record { host = c.args.host; body = Single (command_lent fields payload) } in
-    let old : Buffers = record { bytes = buffer; posted = c.args.posted.now } in
-    let new : Buffers = record { bytes = c.submit_fields.new.data; posted = c.submit_fields.new.posted } in
-    let asked : IsAsked size (e.port.number + 1) entry buffer job = record {
+    record {
       by_host = c.requires.host;
       body = record {
         whole = c.requires.one;
@@ -47,13 +42,4 @@ returns-clause-submits c =
         room = λ read. c.if-not-fits_buffer.ensures.read (subst (λ (op : Op). IsTrue (reads op)) (sym c.plain_fields-fields.ensures.op) read)
             ∙ (ap (λ (n : ℕ). (fields.nlb + 1) * n) here ∙ ap (λ (n : ℕ). (n + 1) * size) (c.plain_fields-fields.ensures.nlb plain));
       };
-    } in
-    submits_of c.submit_fields.result e c.submit_fields.new.self entry old new c.requires.idle (record {
-      job = job;
-      asked = asked;
-      number = c.in-Ok.number;
-      log = kept_by c.draw.new.log;
-      drawn = subst (λ (n : ℕ). HasDrawn e.number n (kept_by e.log) (kept_by c.draw.new.log) c.in-Ok.number) (sym c.submit_fields.ensures.number) c.in-Ok.ensures.drawn;
-      progress = c.submit_fields.ensures.progress;
-      space = c.submit_fields.ensures.space;
-    })
+    }

@@ -1,4 +1,4 @@
-use Rattle.std.proofs.Common.{◌≡◌, ◌∙◌, ◌++◌, ℕ, ◌+◌, List, length, take, drop, slice_range, sym, ap, subst, arith}
+use Rattle.std.proofs.Common.{◌≡◌, ◌∙◌, ◌++◌, ℕ, List, length, take, drop, slice_range, ap, subst, arith}
 use Rattle.std.proofs.lemmas.List.{length-drop, length-take-le}
 use Rattle.nvm_record.specs.Entry.{IsSpelling, called_for, data_length}
 use Rattle.nvm_geometry.specs.Namespace.{Namespace}
@@ -6,12 +6,8 @@ use Rattle.nvm_plan.specs.OnlyPart.{command_lent}
 use Rattle.nvm_plan.specs.declared.job.Body.TheVariants.{Pair}
 use Rattle.nvm_plan.specs.declared.job.Job.{Job}
 use Rattle.nvm_space.specs.Spaces.{SpaceName}
-use Rattle.nvm_c.specs.Asked.{IsAsked}
 use Rattle.nvm_c.specs.Engines.{namespace_of}
-use Rattle.nvm_c.specs.Logs.{HasDrawn, kept_by}
-use Rattle.nvm_c.specs.Submitted.{Buffers}
 use Rattle.nvm_c.proofs.AtOnce.{back_slice}
-use Rattle.nvm_c.proofs.Steps.{submits_of}
 use Rattle.nvm_c.proofs.engine.Engine.submit_pair.Goals as goal
 
 pub submit_fields-requires-clause-whole : goal.submit_fields-requires-clause-whole
@@ -31,8 +27,8 @@ submit_fields-requires-clause-whole c =
     ap length back ∙ length-drop c.data_length-called.result c.args.data.now ∙ c.if-sent-called.false ∙ c.data_length.ensures ∙ ap (λ (n : ℕ). data_length n write.op write.nlb write.nr) here in
     (c.plain_fields-compare.ensures.whole size a plain.0 long, c.plain_fields-write.ensures.whole size b plain.1 rest, c.if-not-are_fused.ensures.fused a b)
 
-pub returns-clause-submits : goal.returns-clause-submits
-returns-clause-submits c =
+pub submit_fields-requires-clause-asked : goal.submit_fields-requires-clause-asked
+submit_fields-requires-clause-asked c =
     let e = c.args.self.now in
     let entries = c.args.entries.now in
     let buffer = c.args.data.now in
@@ -52,9 +48,7 @@ returns-clause-submits c =
     let cut : c.data_length-called.result ≡ called_for size (take 64 entries) =
     called ∙ c.plain_fields-compare.ensures.called size plain.0 ∙ ap (called_for size) c.split_at.ensures.front in
     let job : Job = record { host = c.args.host; body = Pair (command_lent compare a) (command_lent write b) } in
-    let old : Buffers = record { bytes = buffer; posted = c.args.posted.now } in
-    let new : Buffers = record { bytes = c.submit_fields.new.data; posted = c.submit_fields.new.posted } in
-    let asked : IsAsked size (e.port.number + 1) entries buffer job = record {
+    record {
       by_host = c.requires.host;
       body = record {
         whole = c.requires.two;
@@ -63,13 +57,4 @@ returns-clause-submits c =
         second = subst (λ (bs : List ℕ). IsSpelling size (drop 64 entries ++ bs) (command_lent write b)) (back ∙ ap (λ (n : ℕ). drop n buffer) cut)
             (subst (λ (entry : List ℕ). IsSpelling size (entry ++ b) (command_lent write b)) c.split_at.ensures.back (c.plain_fields-write.ensures.spelled size b plain.1 rest));
       };
-    } in
-    submits_of c.submit_fields.result e c.submit_fields.new.self entries old new c.requires.idle (record {
-      job = job;
-      asked = asked;
-      number = c.in-Ok.number;
-      log = kept_by c.draw.new.log;
-      drawn = subst (λ (n : ℕ). HasDrawn e.number n (kept_by e.log) (kept_by c.draw.new.log) c.in-Ok.number) (sym c.submit_fields.ensures.number) c.in-Ok.ensures.drawn;
-      progress = c.submit_fields.ensures.progress;
-      space = c.submit_fields.ensures.space;
-    })
+    }
