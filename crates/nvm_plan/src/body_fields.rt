@@ -5,6 +5,7 @@ ghost use Rattle.nvm_record.specs.Deeds.{IsOnRange};
 ghost use Rattle.nvm_record.specs.Op.{carries_ranges};
 ghost use Rattle.nvm_record.specs.PayloadRef.{lent_bytes};
 ghost use Rattle.nvm_record.specs.declared.op.Fuse.TheVariants.{Normal};
+ghost use Rattle.nvm_geometry.specs.Boundaries.{unit_number};
 ghost use Rattle.nvm_geometry.specs.Limits.{LiesInUnit};
 ghost use Rattle.nvm_geometry.specs.Namespace.{Namespace};
 ghost use Rattle.nvm_store.specs.Place.{IsCovered};
@@ -56,11 +57,11 @@ pub fn only_part<'a>(
     ready_jobs();
     parts_of_jobs();
     jobs_that_fit_have_their_data();
-    let (first, part) = ready_part(geometry, fields, payload, compared)?;
-    Some((geometry.unit_of(first), part))
+    let (unit, part) = ready_part(geometry, fields, payload, compared)?;
+    Some((unit, part))
 }
 
-/// The first LBA of a job's range, and all that the job asks for there, where no check refuses it and it lies in one unit. It may be `None` all the same; as
+/// The unit of a job's range, and all that the job asks for there, where no check refuses it and it lies in one unit. It may be `None` all the same; as
 /// it is written it is so for a Dataset Management.
 #[inline(always)]
 fn ready_part<'a>(
@@ -68,61 +69,57 @@ fn ready_part<'a>(
     fields: BodyFields,
     payload: PayloadRef<'a>,
     compared: PayloadRef<'a>,
-) -> Option<(u64, LentPart<'a>)>
+) -> Option<(u16, LentPart<'a>)>
     ensures ready { IfSome result (λ all. IsReadyBody geometry.now (body_lent fields (lent_bytes payload.entry) (lent_bytes compared.entry))) }
     ensures some { IfSome result (λ all. 0 < (part_operation_of all.1).blocks) }
-    ensures range { IfSome result (λ all. all.0 < geometry.now.nsze) }
     ensures part { IfSome result (λ all. operation_of_body geometry.now (body_lent fields (lent_bytes payload.entry) (lent_bytes compared.entry))
         ≡ Some (part_operation_of all.1)) }
     ensures deed { IfSome result (λ all. IsOnRange (part_operation_of all.1).deed) }
-    ensures first { IfSome result (λ all. (part_operation_of all.1).first ≡ all.0) }
-    ensures inside { IfSome result (λ all. LiesInUnit geometry.now all.0 (part_operation_of all.1).blocks) }
+    ensures unit { IfSome result (λ all. all.0 ≡ unit_number geometry.now (part_operation_of all.1).first) }
+    ensures inside { IfSome result (λ all. LiesInUnit geometry.now (part_operation_of all.1).first (part_operation_of all.1).blocks) }
 {
     match fields {
         BodyFields::Single(alone) => {
             if !passes_checks(geometry, &alone) {
                 return None;
             }
-            let first = alone.slba;
-            if geometry.crosses(first, u32::from(alone.nlb) + 1) {
-                return None;
-            }
+            let unit = geometry.unit_of_range(alone.slba, u32::from(alone.nlb) + 1)?;
             let part = whole_part(&alone, payload)?;
-            Some((first, part))
+            Some((unit, part))
         }
         BodyFields::Pair(compare, write) => {
-            if !is_ready_pair(geometry, &compare, &write) {
-                return None;
-            }
-            let first = compare.slba;
-            let blocks = u32::from(compare.nlb) + 1;
+            let unit = unit_of_ready_pair(geometry, &compare, &write)?;
             let act = ActRef::Pair {
-                first,
-                blocks,
+                first: compare.slba,
+                blocks: u32::from(compare.nlb) + 1,
                 compare: compared,
                 write: payload,
             };
-            Some((first, LentPart::Act(act)))
+            Some((unit, LentPart::Act(act)))
         }
     }
 }
 
-/// Whether no check refuses a pair of these fields: then it lies in one unit.
+/// The unit of a pair of these fields, where no check refuses it.
 #[inline(always)]
-fn is_ready_pair(geometry: &Geometry, compare: &EntryFields, write: &EntryFields) -> bool
-    ensures ready { OnTrue result ((compared written : List ℕ)
+fn unit_of_ready_pair(geometry: &Geometry, compare: &EntryFields, write: &EntryFields) -> Option<u16>
+    ensures ready { IfSome result (λ unit. (compared written : List ℕ)
         → IsReadyPair geometry.now (command_lent compare.now compared) (command_lent write.now written)) }
-    ensures inside { OnTrue result (LiesInUnit geometry.now compare.now.slba (compare.now.nlb + 1)) }
+    ensures unit { IfSome result (λ unit. unit ≡ unit_number geometry.now compare.now.slba) }
+    ensures inside { IfSome result (λ unit. LiesInUnit geometry.now compare.now.slba (compare.now.nlb + 1)) }
 {
     let blocks = u32::from(compare.nlb) + 1;
-    compare.op == Op::Compare
-        && write.op == Op::Write
-        && compare.nsid == NAMESPACE_IDENTIFIER
-        && write.nsid == NAMESPACE_IDENTIFIER
-        && write.slba == compare.slba
-        && write.nlb == compare.nlb
-        && geometry.in_range(compare.slba, blocks)
-        && geometry.within_pair_limit(compare.slba, blocks)
+    if compare.op != Op::Compare
+        || write.op != Op::Write
+        || compare.nsid != NAMESPACE_IDENTIFIER
+        || write.nsid != NAMESPACE_IDENTIFIER
+        || write.slba != compare.slba
+        || write.nlb != compare.nlb
+        || !geometry.in_range(compare.slba, blocks)
+    {
+        return None;
+    }
+    geometry.unit_of_pair(compare.slba, blocks)
 }
 
 /// Whether a command by itself on a range passes all checks but that of its opcode.

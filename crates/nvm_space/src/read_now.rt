@@ -82,10 +82,10 @@ impl<K: Kept> Space<K> {
         if !self.geometry.in_range(slba, blocks) {
             return Err(ReadNow::OutOfRange);
         }
-        if self.geometry.crosses(slba, blocks) {
+        let Some(unit) = self.geometry.unit_of_range(slba, blocks) else {
             return Err(ReadNow::Crosses);
-        }
-        let place = usize::from(self.geometry.unit_of(slba));
+        };
+        let place = usize::from(unit);
         let look = Look::Read {
             first: slba,
             blocks,

@@ -19,11 +19,11 @@ look-requires g c =
     let ns = c.args.self.now.namespace in
     let unit = unit_number ns c.args.slba in
     let geo : c.self.inside.geometry ≡ ns = ap (λ (s : SpaceName). s.namespace) c.self.view_is in
-    let found : c.unit_of.result ≡ unit = c.unit_of.ensures.value ∙ ap (λ (x : Namespace). unit_number x c.args.slba) geo in
-    let known : unit < units_of ns = subst (λ (x : Namespace). unit_number x c.args.slba < units_of x) geo (subst (λ (k : ℕ). k < units_of c.self.inside.geometry) c.unit_of.ensures.value c.unit_of.ensures.valid) in
+    let found : c.in-Some.unit ≡ unit = c.in-Some.ensures.value ∙ ap (λ (x : Namespace). unit_number x c.args.slba) geo in
+    let known : unit < units_of ns = subst (λ (x : Namespace). unit_number x c.args.slba < units_of x) geo (subst (λ (k : ℕ). k < units_of c.self.inside.geometry) c.in-Some.ensures.value c.in-Some.ensures.valid) in
     let same : c.from-place.result ≡ unit = c.from-place.ensures ∙ found in
     let inside : c.args.slba + c.args.blocks ≤ ns.nsze = subst (λ (x : Namespace). c.args.slba + c.args.blocks ≤ x.nsze) geo (c.if-not-in_range.ensures.0 refl) in
-    let one : LiesInUnit ns c.args.slba c.args.blocks = subst (λ (x : Namespace). LiesInUnit x c.args.slba c.args.blocks) geo c.if-crosses.ensures.one_unit in
+    let one : LiesInUnit ns c.args.slba c.args.blocks = subst (λ (x : Namespace). LiesInUnit x c.args.slba c.args.blocks) geo c.in-Some.ensures.one_unit in
     let its = unit_of_space c.args.self.now c.self.inside.units.items c.args.port.now (record { number = c.port.inside.number; passes = c.port.inside.passes.items }) unit c.from-place.result c.index.result.now c.index_mut.result.now
     (subst IsLaidOut c.self.view_is c.self.invariant) (ap (λ (s : SpaceName). s.units) c.self.view_is) c.port.view_is c.requires.of known same c.index.ensures c.index_mut.ensures.value in
     let last = sym (c.sharing_is_one_number.ensures.number ns c.args.slba (c.args.slba + c.args.blocks - 1) one) ∙ sym same in
@@ -40,11 +40,11 @@ returns g c =
     let ns = c.args.self.now.namespace in
     let unit = unit_number ns c.args.slba in
     let geo : c.self.inside.geometry ≡ ns = ap (λ (s : SpaceName). s.namespace) c.self.view_is in
-    let found : c.unit_of.result ≡ unit = c.unit_of.ensures.value ∙ ap (λ (x : Namespace). unit_number x c.args.slba) geo in
-    let known : unit < units_of ns = subst (λ (x : Namespace). unit_number x c.args.slba < units_of x) geo (subst (λ (k : ℕ). k < units_of c.self.inside.geometry) c.unit_of.ensures.value c.unit_of.ensures.valid) in
+    let found : c.in-Some.unit ≡ unit = c.in-Some.ensures.value ∙ ap (λ (x : Namespace). unit_number x c.args.slba) geo in
+    let known : unit < units_of ns = subst (λ (x : Namespace). unit_number x c.args.slba < units_of x) geo (subst (λ (k : ℕ). k < units_of c.self.inside.geometry) c.in-Some.ensures.value c.in-Some.ensures.valid) in
     let same : c.from-place.result ≡ unit = c.from-place.ensures ∙ found in
     let inside : c.args.slba + c.args.blocks ≤ ns.nsze = subst (λ (x : Namespace). c.args.slba + c.args.blocks ≤ x.nsze) geo (c.if-not-in_range.ensures.0 refl) in
-    let one : LiesInUnit ns c.args.slba c.args.blocks = subst (λ (x : Namespace). LiesInUnit x c.args.slba c.args.blocks) geo c.if-crosses.ensures.one_unit in
+    let one : LiesInUnit ns c.args.slba c.args.blocks = subst (λ (x : Namespace). LiesInUnit x c.args.slba c.args.blocks) geo c.in-Some.ensures.one_unit in
     let new : PortState = record { number = c.port.inside.number; passes = set c.port.inside.passes.items c.from-place.result c.look.new.pass } in
     let looks : LooksAtRange ns c.args.slba c.args.blocks c.look.result c.args.port.now new = record {
       in_range = inside;
