@@ -147,7 +147,7 @@ posted_of_fields (fields.Pair compare write) payload compared lent also = refl
 pub job_kept : (host : ℕ) (fields : BodyFields) (buffer : List ℕ) (called sent : ℕ) {front part back payload compared : List ℕ} → called ≤ sent → front ≡ take sent buffer
     → part ≡ take called front → back ≡ drop called front → payload ≡ back → compared ≡ part
     → (let j : Job = record { host = host; body = body_lent fields (slice_range buffer called sent) (take called buffer) } in j)
-        ≡ (let j : Job = record { host = host; body = body_lent fields payload compared } in j)
+    ≡ (let j : Job = record { host = host; body = body_lent fields payload compared } in j)
 job_kept host fields buffer called sent le front_is part_is back_is is is_too =
     ap (λ (body : Body). (let j : Job = record { host = host; body = body } in j)) (lent_of fields buffer called sent le front_is part_is back_is is is_too)
 

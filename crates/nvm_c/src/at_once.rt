@@ -284,7 +284,7 @@ fn done_at_once(
         → IsOnlyPart space.now.namespace (record { host = host; body = body_lent fields payload compared }) unit (part_operation_of part.entry)
         → MayHaveWaited unit start (views_of port.old.passes)
         → IsToldAtOnce result space.now number (record { host = host; body = body_lent fields payload compared }) unit start
-            (views_of port.new.passes) (record { bytes = room.old; posted = posted.old }) (record { bytes = room.new; posted = posted.new }) }
+        (views_of port.new.passes) (record { bytes = room.old; posted = posted.old }) (record { bytes = room.new; posted = posted.new }) }
 {
     told_statuses_fit_their_entries();
     match space.poll_only_part(alloc, port, number, unit, part, room, &Quiet) {

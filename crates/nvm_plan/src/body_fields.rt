@@ -102,7 +102,11 @@ fn ready_part<'a>(
 
 /// The unit of a pair of these fields, where no check refuses it.
 #[inline(always)]
-fn unit_of_ready_pair(geometry: &Geometry, compare: &EntryFields, write: &EntryFields) -> Option<u16>
+fn unit_of_ready_pair(
+    geometry: &Geometry,
+    compare: &EntryFields,
+    write: &EntryFields,
+) -> Option<u16>
     ensures ready { IfSome result (λ unit. (compared written : List ℕ)
         → IsReadyPair geometry.now (command_lent compare.now compared) (command_lent write.now written)) }
     ensures unit { IfSome result (λ unit. unit ≡ unit_number geometry.now compare.now.slba) }

@@ -103,27 +103,29 @@ returns-clause-submits c =
     let is = job_kept c.args.host c.args.fields c.args.data.now c.args.called c.args.sent c.requires.called c.split_at_mut-front.ensures.front c.split_at.ensures.front c.split_at.ensures.back
     c.keep-data.ensures.payload c.keep-data.ensures.compared in
     let still : c.split_at_mut-front.result.0.now ++ c.done_at_once.new.room ≡ c.args.data.now =
-    ap (λ (b : Buffers). c.split_at_mut-front.result.0.now ++ b.bytes) goes.1 ∙ sym c.split_at_mut-front.ensures.value in
-    (c.requires.idle, record {
-      job = job;
-      asked = c.requires.asked;
-      number = c.in-Ok.number;
-      log = kept_by c.draw.new.log;
-      drawn = c.in-Ok.ensures.drawn;
-      progress = record {
-        held = Waiting (record { number = c.in-Ok.number; host = c.args.host; fields = c.args.fields; «data» = c.keep-data.result });
-        kept = refl;
-        numbered = refl;
-        of = sym is;
-        goes = (
-          c.requires.unlisted,
-          subst (λ (j : Job). IsWaiting (namespace_of e) j (seen_by e) (views_of c.done_at_once.new.port.passes)) is
-              (subst (λ (s : SpaceName). IsWaiting s.namespace job (seen_by e) (views_of c.done_at_once.new.port.passes)) c.deref-space.ensures
-              (record { unit = c.in-Some.unit; part = part_operation_of c.in-Some.part; only = only; waited = goes.0 })),
-        );
-        log_kept = refl;
-        buffers = ap (λ (l : List ℕ). (let b : Buffers = record { bytes = l; posted = c.done_at_once.new.posted } in b)) still
-            ∙ ap (λ (b : Buffers). (let b' : Buffers = record { bytes = c.args.data.now; posted = b.posted } in b')) goes.1;
-      };
-      space = refl;
-    })
+    ap (λ (b : Buffers). c.split_at_mut-front.result.0.now ++ b.bytes) goes.1 ∙ sym c.split_at_mut-front.ensures.value in (
+      c.requires.idle,
+      record {
+        job = job;
+        asked = c.requires.asked;
+        number = c.in-Ok.number;
+        log = kept_by c.draw.new.log;
+        drawn = c.in-Ok.ensures.drawn;
+        progress = record {
+          held = Waiting (record { number = c.in-Ok.number; host = c.args.host; fields = c.args.fields; «data» = c.keep-data.result });
+          kept = refl;
+          numbered = refl;
+          of = sym is;
+          goes = (
+            c.requires.unlisted,
+            subst (λ (j : Job). IsWaiting (namespace_of e) j (seen_by e) (views_of c.done_at_once.new.port.passes)) is
+                (subst (λ (s : SpaceName). IsWaiting s.namespace job (seen_by e) (views_of c.done_at_once.new.port.passes)) c.deref-space.ensures
+                (record { unit = c.in-Some.unit; part = part_operation_of c.in-Some.part; only = only; waited = goes.0 })),
+          );
+          log_kept = refl;
+          buffers = ap (λ (l : List ℕ). (let b : Buffers = record { bytes = l; posted = c.done_at_once.new.posted } in b)) still
+              ∙ ap (λ (b : Buffers). (let b' : Buffers = record { bytes = c.args.data.now; posted = b.posted } in b')) goes.1;
+        };
+        space = refl;
+      },
+    )
