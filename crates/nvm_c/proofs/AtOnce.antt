@@ -8,7 +8,6 @@ use Rattle.nvm_plan.specs.Fits.{FitsNamespace, IsWholeBody}
 use Rattle.nvm_plan.specs.OnlyPart.{IsOnlyPart, body_lent}
 use Rattle.nvm_plan.specs.Completions.{body_completions, data_in}
 use Rattle.nvm_plan.specs.declared.body_fields.BodyFields.{BodyFields}
-use Rattle.nvm_plan.specs.declared.body_fields.BodyFields.TheVariants as fields
 use Rattle.nvm_plan.specs.declared.completions.Completions.{Completions}
 use Rattle.nvm_plan.specs.declared.completions.Completions.TheVariants.{One, Two}
 use Rattle.nvm_plan.specs.declared.job.Body.{Body}
@@ -19,7 +18,7 @@ use Rattle.nvm_space.specs.AtOnce.{IsWaiting}
 use Rattle.nvm_space.specs.UnderWay.{MayHaveWaited}
 use Rattle.nvm_space.specs.declared.job_done.JobDone.{JobDone}
 use Rattle.nvm_c.specs.Logs.{HasDrawn, LogState, kept_by, with_kept}
-use Rattle.nvm_c.specs.Told.{FitEntries, all_posted, overwritten, posted_length, read_by}
+use Rattle.nvm_c.specs.Told.{FitEntries, all_posted, overwritten, read_by}
 use Rattle.nvm_c.specs.declared.log.Log.{Log}
 
 -- Nothing is recorded after a number was drawn where nothing was before, and nothing is kept there.
@@ -137,11 +136,6 @@ pub front_told : (told : Completions) (buffer front new : List ℕ) (room : ℕ)
     → new ≡ unwrap_or (data_in told) front → length new ≡ length front → new ++ drop room buffer ≡ overwritten (read_by told) buffer
 front_told told buffer front new room front_is le is same =
     rw (read_told told) (front_over (data_in told) buffer front new room front_is le is same)
-
--- The completions' entries are as many whatever the data is.
-pub posted_of_fields : (fields : BodyFields) (payload compared lent also : List ℕ) → posted_length (body_lent fields payload compared) ≡ posted_length (body_lent fields lent also)
-posted_of_fields (fields.Single alone) payload compared lent also = refl
-posted_of_fields (fields.Pair compare write) payload compared lent also = refl
 
 -- The job of data that is kept is that of the data that was lent.
 pub job_kept : (host : ℕ) (fields : BodyFields) (buffer : List ℕ) (called sent : ℕ) {front part back payload compared : List ℕ} → called ≤ sent → front ≡ take sent buffer
