@@ -27,7 +27,6 @@ with_port e port =
       number = e.number;
       pending = e.pending;
       spare = e.spare;
-      compared = e.compared;
       log = e.log;
     }
 

@@ -68,8 +68,8 @@ impl<K: Kept> Space<K> {
     }
 
     /// Does the only part of a job, with which the job is done: it answers what is reported of its commands, and the data of a Read with 0/00 is in
-    /// the buffer. It is `None` where the unit wasn't to be had: then the port may be polled with that part again. Else the buffer is as it was.
-    /// It takes no memory but that of a change, and waits for nothing.
+    /// the buffer. Without a Read's 0/00 the buffer is as it was. It is `None` where the unit wasn't to be had: then the port may be polled with that
+    /// part again. It takes no memory but that of a change, and waits for nothing.
     #[inline(always)]
     pub fn poll_only_part<G: Gate>(
         &self,
