@@ -126,8 +126,8 @@ uint32_t zk_version(void);
  * Zeroes or Deallocate of all the blocks gives it back, and a first Write Uncorrectable moves the blocks elsewhere for good: as they are then
  * they stay in memory until each was changed again. There, and in any other unit, the data of a Write stays in memory until each of its blocks
  * was changed again, so at worst each block holds the longest Write that you submit. With ZK_NO_LIMIT each port also keeps,
- * until zk_close, room for the longest data of a Write or Compare that it was given, in one unit or several, and of a pair for its Compare's
- * too: a command that has to wait takes its data along there.
+ * until zk_close, room for the longest data of a Write or Compare in one unit that it was given, and of a pair for its Compare's
+ * too: a command that has to wait for its unit keeps its data there.
  * With `versions` each port also keeps, of each unit, the data as it last saw it, for zk_read_now, until it works there again.
  *
  * ZK_DONE; or ZK_IS_OPEN, ZK_BAD_PORTS, ZK_BAD_NAMESPACE, ZK_BAD_LIMIT or ZK_NO_MEMORY, tried in this order, and every
@@ -153,12 +153,11 @@ int zk_close(struct zk_port *port);
  * opcode or an LBA out of range included, is the status there. The SQ identifier is the port's place in zk_open,
  * from 1: set your own where that is another. The SQ head pointer, the phase tag and DNR are 0 and yours to set.
  * ZK_PENDING: the command stays in the port and nothing was written yet. The entries and data may be reused.
- * With ZK_NO_LIMIT and without versions a Read or Compare that lies in one atomic unit and needn't wait takes no memory in the long run, and a
+ * With ZK_NO_LIMIT and without versions a Read or Compare that lies in one atomic unit takes no memory in the long run, and a
  * Read's blocks are written straight into `data`. Nor do a Write, Write Zeroes or fused pair there, if the unit has at most 65,536 bytes and
  * none of its blocks was ever marked; in any other unit one of one block takes none, where the block's data is that of a Write of one block.
  * Memory is taken for data longer than the port had before, for a unit's first Write, also the first after a Write Zeroes or Deallocate of all
- * the unit's blocks, by a command in several units or one that has to wait, and by the next one with data after such a command or one that was
- * refused.
+ * the unit's blocks, and by a command in several units, or one with data that a check refuses.
  * ZK_NOT_OPEN, ZK_BUSY, ZK_BAD_LENGTH, ZK_NO_PAIR, ZK_NO_MEMORY: nothing was done and nothing was written. The length of
  * the data is asked for before a command is checked, so apply the transfer limit of your controller first. An opcode that
  * is not served carries no data. Any two entries with FUSE 01b and 10b and served opcodes are a pair: what is wrong with it is in its

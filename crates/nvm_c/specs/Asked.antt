@@ -28,6 +28,11 @@ reads (Other opcode) = false
 abbrev pub sent_with : Op → List ℕ → List ℕ
 sent_with op buffer = if reads op then [] else buffer
 
+-- how many bytes a job reads, if it succeeds
+abbrev pub room_of : ℕ → Body → ℕ
+room_of size (Single c) = if reads c.op then (c.nlb + 1) * size else 0
+room_of size (Pair c d) = 0
+
 -- An entry by itself asks for the command, with the buffer that it calls for.
 pub record IsAskedAlone (size : ℕ) (entry buffer : List ℕ) (c : Command) : Type 0 where
   pub whole : length entry ≡ 64

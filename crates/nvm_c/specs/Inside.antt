@@ -1,3 +1,4 @@
 -- What stands in Inside is cited by private functions and invariants alone: no public clause needs it.
+pub mod AtOnce
 pub mod Gathering
 pub mod Line

@@ -9,7 +9,6 @@ pub mod Refused
 pub mod Carried
 pub mod Told
 pub mod Submitted
-pub mod AtOnce
 pub mod Exports
 pub mod ReadNow
 pub mod Identify

@@ -1,5 +1,5 @@
 //! The job for which C's entries ask.
-ghost use Rattle.std.specs.Prelude.{◌≡◌, ◌⊎◌, ◌++◌, ◌+◌, ◌*◌, ◌^◌, ◌<◌, ◌≤◌, ℕ, List, IfOk, IfErr, IsTrue, drop, false, length};
+ghost use Rattle.std.specs.Prelude.{◌≡◌, ◌⊎◌, ◌++◌, ◌+◌, ◌*◌, ◌^◌, ◌<◌, ◌≤◌, ℕ, List, IfOk, IfErr, drop, false, if◌then◌else◌, length};
 ghost use Rattle.byteorder.specs.Endian.{little_number};
 ghost use Rattle.std.specs.Bool.{OnTrue};
 ghost use Rattle.nvm_geometry.specs.Namespace.{Namespace};
@@ -103,8 +103,7 @@ pub(crate) fn reads(op: Op) -> bool
 /// How many bytes a command reads, if it succeeds.
 #[inline(always)]
 pub(crate) fn room(op: Op, nlb: u16, size: BlockSize) -> usize
-    ensures read { IsTrue (spec.reads op) → result ≡ (nlb + 1) * size }
-    ensures none { spec.reads op ≡ false → result ≡ 0 }
+    ensures { result ≡ (if spec.reads op then (nlb + 1) * size else 0) }
 {
     if reads(op) {
         (usize::from(nlb) + 1) * size.bytes() as usize

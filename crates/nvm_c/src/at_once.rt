@@ -1,4 +1,4 @@
-//! Jobs that are done as they are submitted: a command by itself, or a fused pair, that lies in one unit which is free.
+//! Jobs of one part, a command by itself or a fused pair that lies in one unit: tried as they are submitted, and again where they had to wait.
 ghost use Rattle.std.specs.Prelude.{◌≡◌, ◌⊎◌, ◌+◌, ◌*◌, ◌<◌, ◌≤◌, ℕ, List, [], IsTrue, None, false, length, slice_range, take};
 ghost use Rattle.std.specs.Bool.{OnTrue};
 ghost use Rattle.nvm_record.specs.Entry.{data_length};
@@ -19,7 +19,7 @@ ghost use Rattle.nvm_space.specs.Ports.{IsPortOf};
 ghost use Rattle.nvm_space.specs.UnderWay.{MayHaveWaited};
 ghost use Rattle.nvm_c.specs.Asked as spec;
 ghost use Rattle.nvm_c.specs.Asked.{IsAsked};
-ghost use Rattle.nvm_c.specs.AtOnce.{IsToldAtOnce};
+ghost use Rattle.nvm_c.specs.Inside.AtOnce.{IsToldAtOnce};
 ghost use Rattle.nvm_c.specs.Engines.{IsSound, namespace_of, seen_by, space_of};
 ghost use Rattle.nvm_c.specs.Logs.{HasRoomIn, kept_by};
 ghost use Rattle.nvm_c.specs.Pending.{HasBegun, waiting_job};
@@ -128,8 +128,9 @@ impl Engine {
         )
     }
 
-    /// Does the job of entries with these fields, where it has one part whose unit is free. The data of a pair's Compare is in the buffer up to place
-    /// `called`, and that of a command by itself, or of a pair's Write, from there up to place `sent`. What is behind that is room for what a Read reads.
+    /// Does the job of entries with these fields, where it has one part. It waits where the part's unit is held; a job of several parts is begun.
+    /// The data of a pair's Compare is in the buffer up to place `called`, and that of a command by itself, or of a pair's Write, from there up to
+    /// place `sent`. What is behind that is room for what a Read reads.
     #[inline(always)]
     fn submit_fields(
         &mut self,
@@ -199,12 +200,12 @@ impl Engine {
         Code::Pending
     }
 
-    /// Tries the only part of a job again, which isn't in `pending`. It reads into the front of the data, up to place `room`.
+    /// Tries the only part of a job again, which isn't in `pending`. It reads into the front of the data, as many bytes as `len`.
     pub(crate) fn try_again(
         &mut self,
         alloc: Global,
         waiting: WaitingJob,
-        room: usize,
+        len: usize,
         data: &mut [u8],
         posted: &mut [u8],
     ) -> Code
@@ -215,7 +216,7 @@ impl Engine {
         requires log { HasRoomIn self.old.log }
         requires unrecorded { kept_by self.old.log ≡ None }
         requires begun { (start : List PassView) × HasBegun (space_of self.old) (Waiting waiting) start (seen_by self.old) }
-        requires room { room ≤ length data.old }
+        requires len { len ≤ length data.old }
         requires posted { length posted.old ≡ posted_length (waiting_job waiting).body }
         ensures sound { IsSound self.new }
         ensures space { space_of self.new ≡ space_of self.old }
@@ -226,7 +227,7 @@ impl Engine {
             (record { bytes = data.old; posted = posted.old }) (record { bytes = data.new; posted = posted.new }) }
     {
         let space = &*self.space;
-        let (room, _) = data.split_at_mut(room);
+        let (room, _) = data.split_at_mut(len);
         let only = space.only_part(
             waiting.fields,
             PayloadRef::of(&waiting.data.payload),

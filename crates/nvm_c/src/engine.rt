@@ -9,7 +9,7 @@ ghost use Rattle.nvm_space.specs.Ports.{IsPortOf};
 ghost use Rattle.nvm_space.specs.Trace.{DoesJob};
 ghost use Rattle.nvm_space.specs.UnderWay.{IsUnderWay};
 ghost use Rattle.nvm_space.specs.declared.job_done.JobDone.{JobDone as Told};
-ghost use Rattle.nvm_c.specs.Asked.{IsAsked};
+ghost use Rattle.nvm_c.specs.Asked.{IsAsked, room_of};
 ghost use Rattle.nvm_c.specs.Engines.{IsSound, namespace_of, seen_by, space_of};
 ghost use Rattle.nvm_c.specs.Logs.{HasRoomIn, kept_by};
 ghost use Rattle.nvm_c.specs.Pending.{pending_job};
@@ -133,6 +133,7 @@ impl Engine {
             → Submits result self.old self.new entries
             (record { bytes = data.old; posted = posted.old }) (record { bytes = data.new; posted = posted.new })) }
     {
+        told_statuses_fit_their_entries();
         let Some(job) = &*held else {
             unreachable!("a job is held")
         };
@@ -141,38 +142,6 @@ impl Engine {
         }
         let Ok(number) = draw(&mut self.number, &mut self.log) else {
             return Code::NoMemory;
-        };
-        self.begin_numbered(alloc, number, held, data, posted)
-    }
-
-    /// Begins a job of this number, as `begin` does.
-    // Not inlined, for the same reason.
-    #[inline(never)]
-    pub(crate) fn begin_numbered(
-        &mut self,
-        alloc: Global,
-        number: u32,
-        held: &mut Option<Job>,
-        data: &mut [u8],
-        posted: &mut [u8],
-    ) -> Code
-        requires of { IsPortOf (space_of self.old) self.old.port }
-        requires few { self.old.port.number < 64 }
-        requires idle { self.old.pending ≡ None }
-        requires held { IsSome held.old }
-        requires fits { IfSome held.old (λ job. FitsNamespace (namespace_of self.old) job) }
-        requires log { HasRoomIn self.old.log }
-        requires room { IfSome held.old (λ job. length posted.old ≡ posted_length job.body) }
-        ensures sound { IsSound self.new }
-        ensures space { space_of self.new ≡ space_of self.old }
-        ensures number { self.new.number ≡ self.old.number }
-        ensures progress { IfSome held.old (λ job. Progresses result (space_of self.old) number job (seen_by self.old) (seen_by self.new)
-            self.new.pending (kept_by self.old.log) (kept_by self.new.log)
-            (record { bytes = data.old; posted = posted.old }) (record { bytes = data.new; posted = posted.new })) }
-    {
-        told_statuses_fit_their_entries();
-        let Some(job) = &*held else {
-            unreachable!("a job is held")
         };
         match self.space.begin_job(alloc, number, job) {
             Progress::Done(done) => {
@@ -285,7 +254,9 @@ impl Pending {
     }
 
     /// How many bytes the job reads, if it succeeds.
-    fn room(&self, size: BlockSize) -> usize {
+    fn room(&self, size: BlockSize) -> usize
+        ensures { result ≡ room_of size (pending_job self.now).body }
+    {
         match self {
             Pending::UnderWay { job, .. } => match &job.body {
                 Body::Single(command) => room(command.op, command.nlb, size),

@@ -1,6 +1,7 @@
 //! A job that waits for the unit of its only part, and its data.
 ghost use Rattle.std.specs.Prelude.{◌≡◌, ◌≤◌, length};
 ghost use Rattle.std.specs.Bool.{OnTrue};
+ghost use Rattle.nvm_c.specs.Asked.{room_of};
 ghost use Rattle.nvm_c.specs.Pending.{waiting_job};
 ghost use Rattle.nvm_c.specs.Told.{posted_length};
 
@@ -83,7 +84,9 @@ impl WaitingJob {
     }
 
     /// How many bytes it reads, if it succeeds.
-    pub(crate) fn room(&self, size: BlockSize) -> usize {
+    pub(crate) fn room(&self, size: BlockSize) -> usize
+        ensures { result ≡ room_of size (waiting_job self.now).body }
+    {
         match self.fields {
             BodyFields::Single(alone) => room(alone.op, alone.nlb, size),
             BodyFields::Pair(_, _) => 0,
