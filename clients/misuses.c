@@ -750,6 +750,36 @@ static bool waiting_keeps_its_data(void)
     return right;
 }
 
+/* A Read that had to wait is written into the front of the buffer that it is polled with, and where its block was marked meanwhile nothing is. */
+static bool waiting_reads_what_is_there(void)
+{
+    uint8_t entry[ZK_ENTRY_BYTES], data[3 * BLOCK], due[3 * BLOCK], told[ZK_COMPLETION_BYTES];
+    recorded = false;
+    for (int is_marked = 0; is_marked < 2; is_marked++) {
+        struct holder holder = { 0 };
+        if (!hold_unit(&holder))
+            return false;
+        entry_of(entry, READ, 0, 1, 0, 1);
+        bool right = zk_submit(ports, entry, sizeof entry, data, BLOCK, told, sizeof told) == ZK_PENDING;
+        let_go(&holder);
+        if (is_marked) {
+            entry_of(entry, WRITE_UNCORRECTABLE, 0, 2, 0, 1);
+            right &= zk_submit(&ports[1], entry, sizeof entry, NULL, 0, told, sizeof told) == ZK_DONE && status_of(told) == 0;
+        }
+        memset(data, 0xee, sizeof data);
+        memcpy(due, data, sizeof due);
+        if (!is_marked) {
+            memset(due, 0, BLOCK);
+            due[0] = 1;
+        }
+        right &= zk_poll(ports, data, sizeof data, told, sizeof told) == ZK_DONE && status_of(told) == (is_marked ? 0x281 : 0);
+        if (!right || memcmp(data, due, sizeof data) != 0)
+            return false;
+    }
+    close_all();
+    return true;
+}
+
 /* Where memory is refused at the nth time, a record is refused too, and it can be asked for again: then it is there whole. */
 static bool record_starved(void)
 {
@@ -943,6 +973,10 @@ int main(int words, char **word)
     }
     if (!waiting_keeps_its_data()) {
         fprintf(stderr, "misuses: a command that has to wait loses its data\n");
+        right = false;
+    }
+    if (!waiting_reads_what_is_there()) {
+        fprintf(stderr, "misuses: a Read that has to wait isn't answered with what is there then\n");
         right = false;
     }
     if (!record_starved()) {
