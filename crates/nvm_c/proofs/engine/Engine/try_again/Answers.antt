@@ -28,8 +28,8 @@ returns-then-done_at_once-clause-progress c = λ start begun.
       buffers = record {
         entries = did.2;
         read = ap (λ (l : List ℕ). c.done_at_once.new.room ++ l) c.split_at_mut-room.ensures.back
-            ∙ front_told did.0.completions c.args.data.now c.split_at_mut-room.result.0.now c.done_at_once.new.room c.args.room c.split_at_mut-room.ensures.front
-            c.requires.room did.3 c.done_at_once.auto.room;
+            ∙ front_told did.0.completions c.args.data.now c.split_at_mut-room.result.0.now c.done_at_once.new.room c.args.len c.split_at_mut-room.ensures.front
+            c.requires.len did.3 c.done_at_once.auto.room;
       };
       idle = c.requires.idle;
       kept = none_kept (kept_by e.log) w.number job did.0 c.requires.unrecorded;
