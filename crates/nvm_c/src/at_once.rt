@@ -1,4 +1,4 @@
-//! Jobs of one part, a command by itself or a fused pair that lies in one unit: tried as they are submitted, and again where they had to wait.
+//! Jobs of one part, a command by itself or a fused pair that lies in one unit, which are tried as they are submitted.
 ghost use Rattle.std.specs.Prelude.{◌≡◌, ◌⊎◌, ◌+◌, ◌*◌, ◌<◌, ◌≤◌, ℕ, List, [], IsTrue, None, false, length, slice_range, take};
 ghost use Rattle.std.specs.Bool.{OnTrue};
 ghost use Rattle.nvm_record.specs.Entry.{data_length};
@@ -8,7 +8,7 @@ ghost use Rattle.nvm_store.specs.Place.{IsCovered};
 ghost use Rattle.nvm_store.specs.declared.place.Place.{Place as UnitPlace};
 ghost use Rattle.nvm_plan.specs.Completions.{completions_of};
 ghost use Rattle.nvm_plan.specs.Profile.{IsFusedPair};
-ghost use Rattle.nvm_plan.specs.Fits.{FitsNamespace, IsWholeBody};
+ghost use Rattle.nvm_plan.specs.Fits.{IsWholeBody};
 ghost use Rattle.nvm_plan.specs.LentPart.{part_operation_of};
 ghost use Rattle.nvm_plan.specs.OnlyPart.{IsOnlyPart, body_lent, command_lent};
 ghost use Rattle.nvm_plan.specs.Shape.{IsForEach};
@@ -20,12 +20,9 @@ ghost use Rattle.nvm_space.specs.UnderWay.{MayHaveWaited};
 ghost use Rattle.nvm_c.specs.Asked as spec;
 ghost use Rattle.nvm_c.specs.Asked.{IsAsked};
 ghost use Rattle.nvm_c.specs.Inside.AtOnce.{IsToldAtOnce};
-ghost use Rattle.nvm_c.specs.Engines.{IsSound, namespace_of, seen_by, space_of};
-ghost use Rattle.nvm_c.specs.Logs.{HasRoomIn, kept_by};
-ghost use Rattle.nvm_c.specs.Pending.{HasBegun, waiting_job};
-ghost use Rattle.nvm_c.specs.Submitted.{Progresses, Submits};
+ghost use Rattle.nvm_c.specs.Engines.{IsSound, namespace_of, space_of};
+ghost use Rattle.nvm_c.specs.Submitted.{Submits};
 ghost use Rattle.nvm_c.specs.Told.{posted_length};
-ghost use Rattle.nvm_c.specs.declared.engine.Pending.TheVariants.{Waiting};
 
 use crate::asking::{plain_fields, reads, room};
 use crate::code::Code;
@@ -199,68 +196,11 @@ impl Engine {
         }));
         Code::Pending
     }
-
-    /// Tries the only part of a job again, which isn't in `pending`. It reads into the front of the data, as many bytes as `len`.
-    pub(crate) fn try_again(
-        &mut self,
-        alloc: Global,
-        waiting: WaitingJob,
-        len: usize,
-        data: &mut [u8],
-        posted: &mut [u8],
-    ) -> Code
-        requires of { IsPortOf (space_of self.old) self.old.port }
-        requires few { self.old.port.number < 64 }
-        requires idle { self.old.pending ≡ None }
-        requires fits { FitsNamespace (namespace_of self.old) (waiting_job waiting) }
-        requires log { HasRoomIn self.old.log }
-        requires unrecorded { kept_by self.old.log ≡ None }
-        requires begun { (start : List PassView) × HasBegun (space_of self.old) (Waiting waiting) start (seen_by self.old) }
-        requires len { len ≤ length data.old }
-        requires posted { length posted.old ≡ posted_length (waiting_job waiting).body }
-        ensures sound { IsSound self.new }
-        ensures space { space_of self.new ≡ space_of self.old }
-        ensures number { self.new.number ≡ self.old.number }
-        ensures progress { (start : List PassView) → HasBegun (space_of self.old) (Waiting waiting) start (seen_by self.old)
-            → Progresses result (space_of self.old) waiting.number (waiting_job waiting) start (seen_by self.new) self.new.pending
-            (kept_by self.old.log) (kept_by self.new.log)
-            (record { bytes = data.old; posted = posted.old }) (record { bytes = data.new; posted = posted.new }) }
-    {
-        let space = &*self.space;
-        let (room, _) = data.split_at_mut(len);
-        let only = space.only_part(
-            waiting.fields,
-            PayloadRef::of(&waiting.data.payload),
-            PayloadRef::of(&waiting.data.compared),
-            room,
-        );
-        let Some((unit, part)) = only else {
-            self.pending = Some(Pending::Waiting(waiting));
-            return Code::Pending;
-        };
-        if done_at_once(
-            alloc,
-            space,
-            &mut self.port,
-            waiting.number,
-            waiting.host,
-            waiting.fields,
-            unit,
-            part,
-            room,
-            posted,
-        ) {
-            self.spare = waiting.data;
-            return Code::Done;
-        }
-        self.pending = Some(Pending::Waiting(waiting));
-        Code::Pending
-    }
 }
 
 /// Does the only part of a job, tells C of it, and says whether it did. It doesn't where the unit wasn't to be had.
 #[inline(always)]
-fn done_at_once(
+pub(crate) fn done_at_once(
     alloc: Global,
     space: &Space<Count>,
     port: &mut Port<Count>,

@@ -1,13 +1,23 @@
 //! A job that waits for the unit of its only part, and its data.
-ghost use Rattle.std.specs.Prelude.{◌≡◌, ◌≤◌, length};
+ghost use Rattle.std.specs.Prelude.{◌≡◌, ◌<◌, ◌≤◌, List, None, length};
 ghost use Rattle.std.specs.Bool.{OnTrue};
+ghost use Rattle.nvm_plan.specs.Fits.{FitsNamespace};
+ghost use Rattle.nvm_unit.specs.declared.views.PassView.{PassView};
+ghost use Rattle.nvm_space.specs.Ports.{IsPortOf};
 ghost use Rattle.nvm_c.specs.Asked.{room_of};
-ghost use Rattle.nvm_c.specs.Pending.{waiting_job};
+ghost use Rattle.nvm_c.specs.Engines.{IsSound, namespace_of, seen_by, space_of};
+ghost use Rattle.nvm_c.specs.Logs.{HasRoomIn, kept_by};
+ghost use Rattle.nvm_c.specs.Pending.{HasBegun, waiting_job};
+ghost use Rattle.nvm_c.specs.Submitted.{Progresses};
 ghost use Rattle.nvm_c.specs.Told.{posted_length};
+ghost use Rattle.nvm_c.specs.declared.engine.Pending.TheVariants.{Waiting};
 
 use crate::asking::room;
+use crate::at_once::done_at_once;
+use crate::code::Code;
+use crate::engine::{Engine, Pending};
 use nvm_plan::BodyFields;
-use nvm_record::BlockSize;
+use nvm_record::{BlockSize, PayloadRef};
 use std::alloc::Global;
 use std::mem::replace;
 
@@ -91,5 +101,64 @@ impl WaitingJob {
             BodyFields::Single(alone) => room(alone.op, alone.nlb, size),
             BodyFields::Pair(_, _) => 0,
         }
+    }
+}
+
+impl Engine {
+    /// Tries the only part of a job again, which isn't in `pending`. It reads into the front of the data, as many bytes as `len`.
+    pub(crate) fn try_again(
+        &mut self,
+        alloc: Global,
+        waiting: WaitingJob,
+        len: usize,
+        data: &mut [u8],
+        posted: &mut [u8],
+    ) -> Code
+        requires of { IsPortOf (space_of self.old) self.old.port }
+        requires few { self.old.port.number < 64 }
+        requires idle { self.old.pending ≡ None }
+        requires fits { FitsNamespace (namespace_of self.old) (waiting_job waiting) }
+        requires log { HasRoomIn self.old.log }
+        requires unrecorded { kept_by self.old.log ≡ None }
+        requires begun { (start : List PassView) × HasBegun (space_of self.old) (Waiting waiting) start (seen_by self.old) }
+        requires len { len ≤ length data.old }
+        requires posted { length posted.old ≡ posted_length (waiting_job waiting).body }
+        ensures sound { IsSound self.new }
+        ensures space { space_of self.new ≡ space_of self.old }
+        ensures number { self.new.number ≡ self.old.number }
+        ensures progress { (start : List PassView) → HasBegun (space_of self.old) (Waiting waiting) start (seen_by self.old)
+            → Progresses result (space_of self.old) waiting.number (waiting_job waiting) start (seen_by self.new) self.new.pending
+            (kept_by self.old.log) (kept_by self.new.log)
+            (record { bytes = data.old; posted = posted.old }) (record { bytes = data.new; posted = posted.new }) }
+    {
+        let space = &*self.space;
+        let (room, _) = data.split_at_mut(len);
+        let only = space.only_part(
+            waiting.fields,
+            PayloadRef::of(&waiting.data.payload),
+            PayloadRef::of(&waiting.data.compared),
+            room,
+        );
+        let Some((unit, part)) = only else {
+            self.pending = Some(Pending::Waiting(waiting));
+            return Code::Pending;
+        };
+        if done_at_once(
+            alloc,
+            space,
+            &mut self.port,
+            waiting.number,
+            waiting.host,
+            waiting.fields,
+            unit,
+            part,
+            room,
+            posted,
+        ) {
+            self.spare = waiting.data;
+            return Code::Done;
+        }
+        self.pending = Some(Pending::Waiting(waiting));
+        Code::Pending
     }
 }
