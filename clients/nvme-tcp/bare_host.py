@@ -43,7 +43,7 @@ class Host:
     def __init__(self, address, terms=None, alignment=0):
         """Without `terms` ICReq isn't sent."""
         host, port = address.rsplit(":", 1)
-        self.socket = socket.create_connection((host.strip("[]"), int(port)), timeout=10)
+        self.socket = socket.create_connection((host.strip("[]"), int(port)), timeout=60)
         self.socket.setsockopt(socket.IPPROTO_TCP, socket.TCP_NODELAY, 1)
         self.got, self.terms, self.number = bytearray(), Terms(), 0
         if terms:

@@ -267,7 +267,7 @@ def main():
         for it in fuzzers:
             it.join()
         beside.stops = True
-        beside.join(60)
+        beside.join(120)
         faults = [it.fault for it in (beside, *fuzzers) if it.fault]
         if target.process.poll() is not None:
             faults.append(f"the target ended with {target.process.returncode}")
@@ -286,7 +286,7 @@ def main():
 
 def left_behind(target, before):
     """What the sessions left of themselves, in words."""
-    late = time.monotonic() + 20
+    late = time.monotonic() + 60
     while target.files() > before:
         if time.monotonic() > late:
             return [f"the target has {target.files()} files open, and not {before}"]

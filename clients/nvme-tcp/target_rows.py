@@ -373,9 +373,9 @@ class Rows:
 
     def silence(self):
         """A controller ends when its host is silent for longer than it said, and not while it sends Keep Alive."""
-        (silent, _), (heard, _) = admin(self.address, keep_alive=100), admin(self.address, keep_alive=1500)
+        (silent, _), (heard, _) = admin(self.address, keep_alive=100), admin(self.address, keep_alive=4000)
         for _ in range(5):
-            time.sleep(0.7)
+            time.sleep(1)
             hold("Keep Alive in time", heard.do(entry_of(KEEP_ALIVE))[0], 0)
         try:
             silent.more()
