@@ -179,6 +179,7 @@ sound_after (Ok y) first size at count news old new ok err sound fit =
     record {
       some = rw len sound.some;
       low = rw len sound.low;
+      few = rw len sound.few;
       sized = sized-rewritten at count news old new ok size sound.sized fit;
     }
 sound_after (Err y) first size at count news old new ok err sound fit = rw err sound

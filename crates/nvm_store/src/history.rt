@@ -1,4 +1,4 @@
-ghost use Rattle.std.specs.Prelude.{◌+◌, ◌<◌, ◌≤◌, IfOk};
+ghost use Rattle.std.specs.Prelude.{◌+◌, ◌^◌, ◌<◌, ◌≤◌, IfOk};
 ghost use Rattle.nvm_store.specs.Contents.{Holds, LiesAt};
 ghost use Rattle.nvm_store.specs.History.{replay_of, IsLawfulHistory};
 ghost use Rattle.nvm_store.specs.Place.{place_at};
@@ -24,7 +24,7 @@ pub fn replay(
     history: &History,
 ) -> Result<UnitBlocks, NoMemory>
     requires some { 0 < blocks }
-    requires low { first + blocks ≤ 65536 }
+    requires low { first + blocks ≤ 2 ^ 40 }
     requires lawful { IsLawfulHistory (place_at first blocks size) history.now.items }
     ensures place { IfOk result (LiesAt (place_at first blocks size)) }
     ensures replayed { IfOk result (λ unit. Holds unit (replay_of size history.now.items)) }

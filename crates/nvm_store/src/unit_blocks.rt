@@ -1,4 +1,4 @@
-ghost use Rattle.std.specs.Prelude.{◌≡◌, ◌↔◌, ◌+◌, ◌*◌, ◌<◌, ◌≤◌, IfOk, IsTrue, OnErr, OnOk, false, length};
+ghost use Rattle.std.specs.Prelude.{◌≡◌, ◌↔◌, ◌+◌, ◌*◌, ◌^◌, ◌<◌, ◌≤◌, IfOk, IsTrue, OnErr, OnOk, false, length};
 ghost use Rattle.std.specs.Str.{bytes_eq};
 ghost use Rattle.nvm_record.specs.Medium as medium;
 ghost use Rattle.nvm_record.specs.Medium.{Medium, zero_medium, range};
@@ -57,7 +57,7 @@ impl UnitBlocks {
         size: BlockSize,
     ) -> Result<UnitBlocks, NoMemory>
         requires some { 0 < blocks }
-        requires low { first + blocks ≤ 65536 }
+        requires low { first + blocks ≤ 2 ^ 40 }
         ensures place { IfOk result (LiesAt (place_at first blocks size)) }
         ensures zeroes { IfOk result (λ unit. Holds unit (zero_medium size)) }
     {
@@ -78,7 +78,7 @@ impl UnitBlocks {
         size: BlockSize,
     ) -> Result<UnitBlocks, NoMemory>
         requires some { 0 < blocks }
-        requires low { first + blocks ≤ 65536 }
+        requires low { first + blocks ≤ 2 ^ 40 }
         ensures place { IfOk result (LiesAt (place_at first blocks size)) }
         ensures zeroes { IfOk result (λ unit. Holds unit (zero_medium size)) }
     {

@@ -72,7 +72,7 @@ impl Unit {
         limit: Limit,
     ) -> Result<(Unit, Vec<Pass>), UnitFault>
         requires some { 0 < place.blocks }
-        requires low { place.first + place.blocks ≤ 65536 }
+        requires low { place.first + place.blocks ≤ 2 ^ 40 }
         ensures taken { IfOk result (λ u. IsPassCount passes) }
         ensures refused { IfErr result (IsUnitFault passes) }
         ensures bounds { IfOk result (λ u. u.0.bounds ≡ record { place = place; passes = passes; limit = limit }) }
@@ -94,7 +94,7 @@ impl Unit {
         versions: bool,
     ) -> Result<(Unit, Vec<Pass>), UnitFault>
         requires some { 0 < place.blocks }
-        requires low { place.first + place.blocks ≤ 65536 }
+        requires low { place.first + place.blocks ≤ 2 ^ 40 }
         ensures taken { IfOk result (λ u. IsPassCount passes) }
         ensures refused { IfErr result (IsUnitFault passes) }
         ensures bounds { IfOk result (λ u. u.0.bounds ≡ record { place = place; passes = passes; limit = limit }) }
@@ -124,7 +124,7 @@ impl Unit<Count> {
         versions: bool,
     ) -> Result<(Unit<Count>, Vec<Pass<Count>>), UnitFault>
         requires some { 0 < place.blocks }
-        requires low { place.first + place.blocks ≤ 65536 }
+        requires low { place.first + place.blocks ≤ 2 ^ 40 }
         ensures taken { IfOk result (λ u. IsPassCount passes) }
         ensures refused { IfErr result (IsUnitFault passes) }
         ensures bounds { IfOk result (λ u. u.0.bounds ≡ record { place = place; passes = passes; limit = 2 ^ 62 }) }
@@ -148,7 +148,7 @@ impl<K: Kept> Unit<K> {
         versions: bool,
     ) -> Result<(Unit<K>, Vec<Pass<K>>), UnitFault>
         requires some { 0 < place.blocks }
-        requires low { place.first + place.blocks ≤ 65536 }
+        requires low { place.first + place.blocks ≤ 2 ^ 40 }
         requires few { limit ≤ 2 ^ 62 }
         ensures taken { IfOk result (λ u. IsPassCount passes) }
         ensures refused { IfErr result (IsUnitFault passes) }
@@ -226,7 +226,7 @@ impl<K: Kept> Unit<K> {
 /// The blocks of a new unit, all of them zero bytes: where nobody shares them, in memory of their own.
 fn blocks_of(alloc: Global, bounds: Bounds, own: bool) -> Result<UnitBlocks, NoMemory>
     requires some { 0 < bounds.place.blocks }
-    requires low { bounds.place.first + bounds.place.blocks ≤ 65536 }
+    requires low { bounds.place.first + bounds.place.blocks ≤ 2 ^ 40 }
     ensures place { IfOk result (LiesAt bounds.place) }
     ensures zeroes { IfOk result (λ unit. Holds unit (zero_medium bounds.place.size)) }
 {

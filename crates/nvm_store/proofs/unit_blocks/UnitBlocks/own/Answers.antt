@@ -1,4 +1,4 @@
-use Rattle.std.proofs.Common.{◌≡◌, length, ap, ◌∙◌}
+use Rattle.std.proofs.Common.{◌≡◌, ◌<◌, ◌^◌, length, ap, ◌∙◌}
 use Rattle.std.proofs.lemmas.List.{length-replicate}
 use Rattle.nvm_store.specs.Inside.Rewrite.{zero_block}
 use Rattle.nvm_store.proofs.Ranges.{zeroes_held, zeroes_sized}
@@ -12,8 +12,10 @@ pub invariant_of-result : goal.invariant_of-result
 invariant_of-result c =
     let size = c.bytes.result in
     let len : length c.in_ok-blocks.blocks ≡ c.args.blocks = ap length c.in_ok-blocks.ensures ∙ length-replicate c.args.blocks (zero_block size) in
+    let few : c.args.blocks < 2 ^ 32 = search in
     record {
       some = rw len c.requires.some;
       low = rw len c.requires.low;
+      few = rw len few;
       sized = rw (c.in_ok-blocks.ensures, c.bytes.ensures.value) (zeroes_sized c.args.blocks c.args.size);
     }
