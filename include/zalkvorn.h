@@ -4,7 +4,7 @@
  *
  * A thread works through a port. Open a namespace with one port for each thread (or queue, or reactor), and give
  * each thread its own. No call waits, blocks or starts a thread: where another port holds the atomic unit that a
- * command needs, the answer is ZK_PENDING, and zk_poll goes on later.
+ * command needs, or its region, the answer is ZK_PENDING, and zk_poll goes on later.
  *
  * What is proved of this library rests on C for four things.
  *   1. A port is in one call at a time, is handed from thread to thread by a lock, a thread's start or join, or a
@@ -18,7 +18,7 @@
  * Commands: Write (01h), Read (02h), Write Uncorrectable (04h), Compare (05h), Write Zeroes (08h) and Dataset Management
  * (09h), and Compare and Write as a fused pair. NSID is 1. Any other opcode, Flush too, ends with status 0/01: a
  * controller answers Flush itself, with 0/00 where its NSID is 1 or FFFFFFFFh, since nothing is cached here. Abort needs no
- * call: a command is done by zk_submit, or by the next zk_poll that finds its unit free, so the answer is that it wasn't
+ * call: a command is done by zk_submit, or by the next zk_poll that finds its region free, so the answer is that it wasn't
  * aborted. PRINFO, PSDT, FUA, LR and DEAC are not looked at.
  * A status is written T/CC, status code type and status code: 0/00 is Successful Completion, 0/06 is Internal Error,
  * 2/81 is Unrecovered Read Error.
@@ -35,7 +35,11 @@ extern "C" {
 #endif
 
 /* The version of this header. zk_version() gives that of the library; the two must be equal. */
-#define ZK_VERSION 4
+#define ZK_VERSION 5
+
+/* The most blocks of a namespace, and of one that is recorded. */
+#define ZK_MOST_BLOCKS (UINT64_C(1) << 40)
+#define ZK_MOST_RECORDED_BLOCKS 65536
 
 /* The most ports of a namespace, and the most changes of an atomic unit that a record can have. */
 #define ZK_MOST_PORTS 64
@@ -65,15 +69,16 @@ enum zk_code {
     ZK_NOT_OPEN = 2,      /* The port is not open. */
     ZK_IS_OPEN = 3,       /* One of the ports is open. */
     ZK_NO_MEMORY = 4,     /* malloc refused before anything was done. */
-    ZK_BAD_NAMESPACE = 5, /* There is no namespace of these numbers: nsze is not 1 to 65,536; block_size is neither 512 nor 4,096; nabsn is 0
-                           * and nabo is not; nabsn is not 0, and nabo, nawun or nacwu is above it; or there are more than 4,096 atomic units. */
+    ZK_BAD_NAMESPACE = 5, /* There is no namespace of these numbers: nsze is not 1 to ZK_MOST_BLOCKS, or nabsn is 0 and nsze is 2^32 or more; block_size
+                           * is neither 512 nor 4,096; nabsn is 0 and nabo is not; nabsn is not 0, and nabo, nawun or nacwu is above it. Or a
+                           * limit is asked for, and nsze is above ZK_MOST_RECORDED_BLOCKS, or there are more than 4,096 atomic units. */
     ZK_BAD_PORTS = 6,     /* There are no ports, or more than ZK_MOST_PORTS. */
     ZK_BAD_LIMIT = 7,     /* The limit is above ZK_MOST_CHANGES. */
     ZK_BAD_LENGTH = 8,    /* Entries, data or completions of another length than the command calls for. */
     ZK_NO_PAIR = 9,       /* Two entries of which the first hasn't FUSE 01b, the second hasn't 10b, or an opcode isn't served. */
     ZK_BUSY = 10,         /* A command is pending in the port. */
     ZK_IDLE = 11,         /* No command is pending in the port. */
-    ZK_NEWER = 12,        /* Another port has changed the unit since this one has seen it. */
+    ZK_NEWER = 12,        /* Another port has changed the unit, or another of its region, since this one has seen it. */
     ZK_OUT_OF_RANGE = 13, /* The range ends above the namespace. */
     ZK_CROSSES = 14,      /* The range lies in more than one atomic unit. */
     ZK_NO_VERSIONS = 15,  /* The namespace was opened without versions. */
@@ -99,8 +104,8 @@ struct zk_port {
 #define ZK_PORT_INIT { { 0 } }
 
 /* What a namespace advertises. NABSN, NAWUN and NACWU are 0's based values, as in Identify Namespace; a NABSN of 0 is
- * no boundary, and then NABO is 0. Else NABO, NAWUN and NACWU are at most NABSN. A namespace has 1 to 65,536 blocks of
- * 512 or 4,096 bytes, so 256 MiB at most, and at most 4,096 atomic units. */
+ * no boundary, and then NABO is 0 and nsze below 2^32. Else NABO, NAWUN and NACWU are at most NABSN. A namespace has 1 to ZK_MOST_BLOCKS
+ * blocks of 512 or 4,096 bytes. One that is recorded has at most ZK_MOST_RECORDED_BLOCKS, and at most 4,096 atomic units. */
 struct zk_namespace {
     uint64_t nsze;       /* blocks */
     uint32_t block_size; /* bytes of a block */
@@ -116,19 +121,28 @@ uint32_t zk_version(void);
 /* Opens `count` ports on a new namespace whose blocks are zero bytes. With a `limit` of ZK_NO_LIMIT it keeps its blocks and nothing
  * of its past, so it can run for as long as you like.
  *
+ * Its atomic units are kept in at most 4,096 regions, each of a row of whole units: of one unit where there are no more units than that,
+ * and else of the least number that makes so few. One port at a time works in a region: what needs it meanwhile is pending, and zk_poll tries it
+ * again. A namespace without a boundary is one unit, and so one region: advertise boundaries where several ports are to work at once.
+ * Memory is taken for what is written. A block that nobody has written is zeroes; opening takes some bytes for each region and port, and a byte for each
+ * 256 blocks. In a region of more than 65,536 bytes a Write Zeroes or Deallocate takes some 50 bytes for each of its blocks, also of those that nobody had
+ * written. A command that changes several blocks of such a region copies, on its way, 8 bytes for each 2,048 blocks of the region; with `versions` one that
+ * changes a block may, too. That is nothing up to some 2^31 blocks of a namespace with boundaries, and milliseconds at 2^40; without a boundary it is 8 MiB
+ * at 2^31. No call is broken off: a Dataset Management of 256 ranges may name all blocks, and takes a step for each unit that they are in.
+ *
  * With a `limit` of 1 to ZK_MOST_CHANGES it is recorded: each port keeps each command that it did, with its data, what it read and
  * how it ended, for zk_record. Memory grows with each command; a large limit reserves nothing. After ZK_MOST_JOBS of all ports together no more is kept, and
  * zk_record answers ZK_RECORD_FULL. Each atomic unit can be changed `limit` times; a command counts once in each unit that it
  * changes. A change beyond that ends with status 0/06, and the unit's blocks stay as they were.
  *
  * In both, a command that finds no memory once it is under way ends with status 0/06. What it did in other units by then stays
- * done. Without `versions` an atomic unit of at most 65,536 bytes keeps its blocks in one piece of memory. Its first Write takes it, a Write
+ * done. Without `versions` a region of at most 65,536 bytes keeps its blocks in one piece of memory. Its first Write takes it, a Write
  * Zeroes or Deallocate of all the blocks gives it back, and a first Write Uncorrectable moves the blocks elsewhere for good: as they are then
- * they stay in memory until each was changed again. There, and in any other unit, the data of a Write stays in memory until each of its blocks
+ * they stay in memory until each was changed again. There, and in any larger region, the data of a Write stays in memory until each of its blocks
  * was changed again, so at worst each block holds the longest Write that you submit. With ZK_NO_LIMIT each port also keeps,
  * until zk_close, room for the longest data of a Write or Compare in one unit that it was given, and of a pair for its Compare's
- * too: a command that has to wait for its unit keeps its data there.
- * With `versions` each port also keeps, of each unit, the data as it last saw it, for zk_read_now, until it works there again.
+ * too: a command that has to wait for its region keeps its data there.
+ * With `versions` each port also keeps, of each region, the data as it last saw it, for zk_read_now, until it works there again.
  *
  * ZK_DONE; or ZK_IS_OPEN, ZK_BAD_PORTS, ZK_BAD_NAMESPACE, ZK_BAD_LIMIT or ZK_NO_MEMORY, tried in this order, and every
  * port is as it was.
@@ -154,10 +168,10 @@ int zk_close(struct zk_port *port);
  * from 1: set your own where that is another. The SQ head pointer, the phase tag and DNR are 0 and yours to set.
  * ZK_PENDING: the command stays in the port and nothing was written yet. The entries and data may be reused.
  * With ZK_NO_LIMIT and without versions a Read or Compare that lies in one atomic unit takes no memory in the long run, and a
- * Read's blocks are written straight into `data`. Nor do a Write, Write Zeroes or fused pair there, if the unit has at most 65,536 bytes and
- * none of its blocks was ever marked; in any other unit one of one block takes none, where the block's data is that of a Write of one block.
- * Memory is taken for data longer than the port had before, for a unit's first Write, also the first after a Write Zeroes or Deallocate of all
- * the unit's blocks, and by a command in several units, or one with data that a check refuses.
+ * Read's blocks are written straight into `data`. Nor do a Write, Write Zeroes or fused pair there, if the unit's region has at most 65,536 bytes and
+ * none of its blocks was ever marked; in any other region one of one block takes none, where the block's data is that of a Write of one block.
+ * Memory is taken for data longer than the port had before, for a region's first Write, also the first after a Write Zeroes or Deallocate of all
+ * the region's blocks, and by a command in several units, or one with data that a check refuses.
  * ZK_NOT_OPEN, ZK_BUSY, ZK_BAD_LENGTH, ZK_NO_PAIR, ZK_NO_MEMORY: nothing was done and nothing was written. The length of
  * the data is asked for before a command is checked, so apply the transfer limit of your controller first. An opcode that
  * is not served carries no data. Any two entries with FUSE 01b and 10b and served opcodes are a pair: what is wrong with it is in its
@@ -177,8 +191,8 @@ size_t zk_data_length(const uint8_t *entries, size_t count, uint32_t block_size)
 
 /* Goes on with the command that is pending in the port. The buffers are as in zk_submit; those of a Read need at
  * least the room of its blocks, and any other command's data is not looked at. A thread that has nothing else to do calls
- * sched_yield() before it polls again: the port that holds the unit may not be running. It isn't promised that a pending
- * command ever ends: others may have its unit at each poll.
+ * sched_yield() before it polls again: the port that holds the region may not be running. It isn't promised that a pending
+ * command ever ends: others may have its region at each poll.
  * ZK_DONE and ZK_PENDING as in zk_submit. ZK_NOT_OPEN, ZK_IDLE, ZK_BAD_LENGTH: nothing was done, and a pending command
  * is still pending.
  * Threads: as zk_submit. */
@@ -212,7 +226,7 @@ struct zk_status {
 };
 
 /* Answers a Read of `nlb` + 1 blocks inside one atomic unit from what the port keeps, without taking the unit: even
- * while another port has it. The port has to have seen the unit's last change; a command of its own on the unit makes it
+ * while another port has it. The port has to have seen the last change of the unit's region; a command of its own on the unit makes it
  * current. `data` is room for exactly these blocks.
  * ZK_DONE: the status is written, and with 0/00 the blocks. ZK_NOT_OPEN, ZK_BUSY, ZK_NO_VERSIONS, ZK_BAD_LENGTH,
  * ZK_OUT_OF_RANGE, ZK_CROSSES, ZK_NEWER, ZK_NO_MEMORY: nothing was written.

@@ -14,7 +14,7 @@ WANT = {
 
 # What a space reports of a job for want of memory, where no check refuses the job.
 NO_PART = "crate::job_done::JobDone::of_no_part(alloc, job)"
-IS_READY = "matches!(nvm_plan::plan(&self.geometry, job), nvm_plan::Plan::Ready)"
+IS_READY = "nvm_plan::refusal(&self.geometry, job).is_none()"
 # What these answer for want of memory, which is no error of a Result that could be made of its name alone, and where they may.
 ANSWERS = {
     ("nvm_unit", "Unit::change"): ("Changed::NoMemory { point: 0 }", ""),

@@ -3,9 +3,11 @@ use Rattle.std.proofs.Common.{◌≡◌, ◌⊎◌, inl, inr, ◌∙◌, ℕ, �
 use Rattle.std.proofs.lemmas.List.{drop-take, length-drop, length-take-le, take-append-drop, take-take, take_all}
 use Rattle.nvm_record.specs.Step.{Operation}
 use Rattle.nvm_record.specs.declared.status.Statuses.{Statuses}
+use Rattle.nvm_geometry.specs.Boundaries.{unit_number}
+use Rattle.nvm_geometry.specs.Large.{region_of}
 use Rattle.nvm_geometry.specs.Namespace.{Namespace}
 use Rattle.nvm_plan.specs.Fits.{FitsNamespace, IsWholeBody}
-use Rattle.nvm_plan.specs.OnlyPart.{IsOnlyPart, body_lent}
+use Rattle.nvm_plan.specs.OnlyPart.{body_lent}
 use Rattle.nvm_plan.specs.Completions.{body_completions, data_in}
 use Rattle.nvm_plan.specs.declared.body_fields.BodyFields.{BodyFields}
 use Rattle.nvm_plan.specs.declared.completions.Completions.{Completions}
@@ -14,7 +16,7 @@ use Rattle.nvm_plan.specs.declared.job.Body.{Body}
 use Rattle.nvm_plan.specs.declared.job.Body.TheVariants.{Pair, Single}
 use Rattle.nvm_plan.specs.declared.job.Job.{Job}
 use Rattle.nvm_unit.specs.declared.views.PassView.{PassView}
-use Rattle.nvm_space.specs.AtOnce.{IsWaiting}
+use Rattle.nvm_space.specs.AtOnce.{IsOnlyPartAt, IsWaiting}
 use Rattle.nvm_space.specs.UnderWay.{MayHaveWaited}
 use Rattle.nvm_space.specs.declared.job_done.JobDone.{JobDone}
 use Rattle.nvm_c.specs.Logs.{HasDrawn, LogState, kept_by, with_kept}
@@ -146,9 +148,10 @@ job_kept host fields buffer called sent le front_is part_is back_is is is_too =
     ap (λ (body : Body). (let j : Job = record { host = host; body = body } in j)) (lent_of fields buffer called sent le front_is part_is back_is is is_too)
 
 -- A job has one only unit.
-pub waits_for_it : (ns : Namespace) (job : Job) (unit : ℕ) (part : Operation) (start now : List PassView) → IsOnlyPart ns job unit part → (waiting : IsWaiting ns job start now)
-    → MayHaveWaited unit start now
-waits_for_it ns job unit part start now only waiting =
-    let both : waiting.unit ∷ [] ≡ unit ∷ [] = sym waiting.only.units ∙ only.units in
-    let same : waiting.unit ≡ unit = cc both in
-    subst (λ (u : ℕ). MayHaveWaited u start now) same waiting.waited
+pub waits_for_it : (ns : Namespace) (job : Job) (region : ℕ) (part : Operation) (start now : List PassView) → IsOnlyPartAt ns job region part → (waiting : IsWaiting ns job start now)
+    → MayHaveWaited region start now
+waits_for_it ns job region part start now only waiting =
+    let both : unit_number ns waiting.part.first ∷ [] ≡ unit_number ns part.first ∷ [] = sym waiting.only.only.units ∙ only.only.units in
+    let same : unit_number ns waiting.part.first ≡ unit_number ns part.first = cc both in
+    let here : waiting.region ≡ region = waiting.only.here ∙ (ap (λ (unit : ℕ). region_of ns unit) same ∙ sym only.here) in
+    subst (λ (r : ℕ). MayHaveWaited r start now) here waiting.waited

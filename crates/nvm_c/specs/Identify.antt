@@ -2,9 +2,8 @@
 -- endian, and what is not named here is 0.
 use Rattle.std.specs.Prelude.{◌≡◌, ◌≢◌, ◌⊎◌, ℕ, List, ◌∷◌, ◌++◌, Option, Some, None, length, replicate}
 use Rattle.byteorder.specs.Endian.{little_bytes}
-use Rattle.nvm_geometry.specs.Faults.{HasNoFault, IsFirstGeometryFault}
+use Rattle.nvm_geometry.specs.Large.{IsLarge}
 use Rattle.nvm_geometry.specs.Namespace.{Namespace}
-use Rattle.nvm_geometry.specs.declared.geometry_fault.GeometryFault.{GeometryFault}
 use Rattle.nvm_c.specs.Engines.{namespace_of}
 use Rattle.nvm_c.specs.Told.{overwritten}
 use Rattle.nvm_c.specs.declared.code.Code.{Code}
@@ -33,8 +32,7 @@ abbrev pub IdentifiesAt : Code → Option Engine → Option Engine → List ℕ 
 IdentifiesAt code None engine' old new = (code ≡ NotOpen) × (engine' ≡ None) × (new ≡ old)
 IdentifiesAt code (Some e) engine' old new = (engine' ≡ Some e) × Reports code (namespace_of e) old new
 
--- What is reported of these numbers, as of the namespace that is opened with them; or there is none.
+-- What is reported of these numbers, as of the namespace that is opened with them and no limit; or there is none.
 abbrev pub IdentifiesNumbers : Code → Namespace → List ℕ → List ℕ → Type 0
 IdentifiesNumbers code ns old new =
-    (HasNoFault ns × Reports code ns old new)
-    ⊎ ((code ≡ BadNamespace) × ((fault : GeometryFault) × IsFirstGeometryFault ns fault) × (new ≡ old))
+    (IsLarge ns × Reports code ns old new) ⊎ ((code ≡ BadNamespace) × ¬ (IsLarge ns) × (new ≡ old))

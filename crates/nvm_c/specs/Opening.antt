@@ -2,6 +2,7 @@
 use Rattle.std.specs.Prelude.{◌≡◌, ◌⊎◌, ℕ, nat_eq, Bool, IsTrue, if◌then◌else◌, List, [], length, map, Option, Some, None, is_some, false}
 use Rattle.std.specs.List.{list_any}
 use Rattle.nvm_geometry.specs.Faults.{IsFirstGeometryFault}
+use Rattle.nvm_geometry.specs.Large.{IsLarge}
 use Rattle.nvm_geometry.specs.Namespace.{Namespace, namespace_of}
 use Rattle.nvm_geometry.specs.declared.geometry_fault.GeometryFault.{GeometryFault}
 use Rattle.nvm_store.specs.Limit.{IsLimit}
@@ -13,6 +14,8 @@ use Rattle.nvm_c.specs.declared.code.Code.{Code}
 use Rattle.nvm_c.specs.declared.code.Code.TheVariants.{Done, Pending, NotOpen, IsOpen, NoMemory, BadNamespace, BadPorts, BadLimit, BadLength, NoPair, Busy, Idle, Newer, OutOfRange, Crosses, NoVersions}
 use Rattle.nvm_c.specs.declared.engine.Engine.{Engine}
 use Rattle.nvm_c.specs.declared.handle.Handle.{Handle}
+use Rattle.nvm_c.specs.declared.opening.Asked.{Asked}
+use Rattle.nvm_c.specs.declared.opening.Asked.TheVariants.{Recorded, Unrecorded}
 use Rattle.nvm_c.specs.declared.opening.Numbers.{Numbers}
 
 -- the namespace of the numbers that C wrote
@@ -34,6 +37,20 @@ new_log recorded = if recorded then Some (record { jobs = []; done = []; full = 
 -- the limit that C wrote: 0 is none, and then nothing is recorded
 abbrev pub limit_of : ℕ → Option ℕ
 limit_of limit = if nat_eq limit 0 then None else Some limit
+
+-- what is asked for
+abbrev pub namespace_asked : Asked → Namespace
+namespace_asked (Recorded geometry limit) = geometry
+namespace_asked (Unrecorded geometry) = geometry
+
+abbrev pub limit_asked : Asked → Option ℕ
+limit_asked (Recorded geometry limit) = Some limit
+limit_asked (Unrecorded geometry) = None
+
+-- The numbers are no namespace's: with a limit none that a record can be of, and without one none of any size.
+abbrev pub AreNoNamespace : Option ℕ → Namespace → Type 0
+AreNoNamespace None ns = ¬ (IsLarge ns)
+AreNoNamespace (Some limit) ns = (fault : GeometryFault) × IsFirstGeometryFault ns fault
 
 -- It is 0, which is none, or the limit of a record.
 abbrev pub IsNoneOrLimit : ℕ → Type 0
@@ -65,7 +82,7 @@ abbrev pub Opens : Code → Namespace → ℕ → Bool → List Handle → List 
 Opens Done ns limit versions old new = IsOpened ns (limit_of limit) versions (engines_of new) × (list_any is_open old ≡ false) × IsNoneOrLimit limit
 Opens IsOpen ns limit versions old new = (new ≡ old) × IsTrue (list_any is_open old)
 Opens BadPorts ns limit versions old new = (new ≡ old) × ¬ (IsPortCount (length old))
-Opens BadNamespace ns limit versions old new = (new ≡ old) × ((fault : GeometryFault) × IsFirstGeometryFault ns fault)
+Opens BadNamespace ns limit versions old new = (new ≡ old) × AreNoNamespace (limit_of limit) ns
 Opens BadLimit ns limit versions old new = (new ≡ old) × ¬ (IsNoneOrLimit limit)
 Opens NoMemory ns limit versions old new = new ≡ old
 Opens Pending ns limit versions old new = ⊥

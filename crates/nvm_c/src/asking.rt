@@ -12,7 +12,7 @@ ghost use Rattle.nvm_c.specs.Asked.{IsAsked, IsAskedAlone, IsAskedTogether};
 ghost use Rattle.nvm_c.specs.Refused.{IsRefusal};
 
 use crate::code::Code;
-use nvm_geometry::Geometry;
+use nvm_geometry::LargeGeometry;
 use nvm_plan::{Body, Job, fits};
 use nvm_record::{
     BlockSize, Command, CommandFault, EntryFields, NoMemory, Op, Payload, entry_fields,
@@ -23,7 +23,7 @@ use std::alloc::Global;
 /// The job of one entry, or of two that are a fused pair.
 pub(crate) fn asked_job(
     alloc: Global,
-    geometry: &Geometry,
+    geometry: &LargeGeometry,
     host: u16,
     entries: &[u8],
     buffer: &[u8],

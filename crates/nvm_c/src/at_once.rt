@@ -10,11 +10,13 @@ ghost use Rattle.nvm_plan.specs.Completions.{completions_of};
 ghost use Rattle.nvm_plan.specs.Profile.{IsFusedPair};
 ghost use Rattle.nvm_plan.specs.Fits.{IsWholeBody};
 ghost use Rattle.nvm_plan.specs.LentPart.{part_operation_of};
-ghost use Rattle.nvm_plan.specs.OnlyPart.{IsOnlyPart, body_lent, command_lent};
+ghost use Rattle.nvm_plan.specs.OnlyPart.{body_lent, command_lent};
 ghost use Rattle.nvm_plan.specs.Shape.{IsForEach};
 ghost use Rattle.nvm_plan.specs.UnitPlace.{IsUnitPlace};
 ghost use Rattle.nvm_unit.specs.Ends.{views_of};
 ghost use Rattle.nvm_unit.specs.declared.views.PassView.{PassView};
+ghost use Rattle.nvm_geometry.specs.Large.{regions_of};
+ghost use Rattle.nvm_space.specs.AtOnce.{IsOnlyPartAt};
 ghost use Rattle.nvm_space.specs.Ports.{IsPortOf};
 ghost use Rattle.nvm_space.specs.UnderWay.{MayHaveWaited};
 ghost use Rattle.nvm_c.specs.Asked as spec;
@@ -125,7 +127,7 @@ impl Engine {
         )
     }
 
-    /// Does the job of entries with these fields, where it has one part. It waits where the part's unit is held; a job of several parts is begun.
+    /// Does the job of entries with these fields, where it has one part. It waits where the part's region is held; a job of several parts is begun.
     /// The data of a pair's Compare is in the buffer up to place `called`, and that of a command by itself, or of a pair's Write, from there up to
     /// place `sent`. What is behind that is room for what a Read reads.
     #[inline(always)]
@@ -164,7 +166,7 @@ impl Engine {
             PayloadRef::of(compared),
             room,
         );
-        let Some((unit, part)) = only else {
+        let Some((region, part)) = only else {
             return self.submit_job(alloc, host, entries, data, posted);
         };
         if !self.spare.make_room(payload.len(), compared.len()) {
@@ -180,7 +182,7 @@ impl Engine {
             number,
             host,
             fields,
-            unit,
+            region,
             part,
             room,
             posted,
@@ -198,7 +200,7 @@ impl Engine {
     }
 }
 
-/// Does the only part of a job, tells C of it, and says whether it did. It doesn't where the unit wasn't to be had.
+/// Does the only part of a job, tells C of it, and says whether it did. It doesn't where the region wasn't to be had.
 #[inline(always)]
 pub(crate) fn done_at_once(
     alloc: Global,
@@ -207,7 +209,7 @@ pub(crate) fn done_at_once(
     number: u32,
     host: u16,
     fields: BodyFields,
-    unit: u16,
+    region: u16,
     part: LentPart<'_>,
     room: &mut [u8],
     posted: &mut [u8],
@@ -215,20 +217,20 @@ pub(crate) fn done_at_once(
     requires of { IsPortOf space.now port.old }
     requires unlisted { space.now.lists ≡ false }
     requires only { (payload compared : List ℕ)
-        × IsOnlyPart space.now.namespace (record { host = host; body = body_lent fields payload compared }) unit (part_operation_of part) }
-    requires covered { (place : UnitPlace) → IsUnitPlace space.now.namespace unit place → IsCovered place (part_operation_of part) }
+        × IsOnlyPartAt space.now.namespace (record { host = host; body = body_lent fields payload compared }) region (part_operation_of part) }
+    requires covered { (place : UnitPlace) → IsUnitPlace (regions_of space.now.namespace) region place → IsCovered place (part_operation_of part) }
     requires room { IsRoomFor (part_operation_of part) space.now.namespace.block_size room.old }
     requires posted { (payload compared : List ℕ) → length posted.old ≡ posted_length (body_lent fields payload compared) }
     ensures of { IsPortOf space.now port.new }
     ensures number { port.new.number ≡ port.old.number }
     ensures goes { (payload compared : List ℕ) (start : List PassView)
-        → IsOnlyPart space.now.namespace (record { host = host; body = body_lent fields payload compared }) unit (part_operation_of part.entry)
-        → MayHaveWaited unit start (views_of port.old.passes)
-        → IsToldAtOnce result space.now number (record { host = host; body = body_lent fields payload compared }) unit start
+        → IsOnlyPartAt space.now.namespace (record { host = host; body = body_lent fields payload compared }) region (part_operation_of part.entry)
+        → MayHaveWaited region start (views_of port.old.passes)
+        → IsToldAtOnce result space.now number (record { host = host; body = body_lent fields payload compared }) region start
         (views_of port.new.passes) (record { bytes = room.old; posted = posted.old }) (record { bytes = room.new; posted = posted.new }) }
 {
     told_statuses_fit_their_entries();
-    match space.poll_only_part(alloc, port, number, unit, part, room, &Quiet) {
+    match space.poll_only_part(alloc, port, number, region, part, room, &Quiet) {
         Some(statuses) => {
             let done = job_done(alloc, host, fields, statuses);
             tell(&done.completions, &mut [], posted);

@@ -76,7 +76,7 @@ impl Engine {
             None => {}
         }
         let host = self.port.number() + 1;
-        if self.log.is_none() && self.space.limit().is_none() {
+        if self.log.is_none() && self.space.recorded().is_none() {
             if is_plain(entries) {
                 return self.submit_command(alloc, host, entries, data, posted);
             }

@@ -35,7 +35,7 @@ use nvm_trace::Judging;
 use std::alloc::Global;
 
 /// The version of the header that goes with this library.
-const VERSION: u32 = 4;
+const VERSION: u32 = 5;
 
 /// The version of the header that goes with this library.
 #[unsafe(no_mangle)]

@@ -121,7 +121,7 @@ fn job_at<'a>(
     if !has_number(one, number) {
         return None;
     }
-    if !fits(&geometry, job) || !Version::Two.holds(&job.body) {
+    if !fits(&geometry.large(), job) || !Version::Two.holds(&job.body) {
         return None;
     }
     Some(job)

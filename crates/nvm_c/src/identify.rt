@@ -6,10 +6,10 @@ ghost use Rattle.nvm_c.specs.Opening.{numbers_of};
 ghost use Rattle.std.specs.Prelude.{length};
 
 use crate::code::Code;
-use crate::opening::{Numbers, geometry_of};
+use crate::opening::{Numbers, large_of};
 use crate::telling::overwrite;
 use byteorder::{ByteOrder, LittleEndian};
-use nvm_geometry::Geometry;
+use nvm_geometry::LargeGeometry;
 
 /// An Identify Namespace data structure has so many bytes.
 const IDENTIFY_BYTES: usize = 4096;
@@ -18,14 +18,14 @@ const IDENTIFY_BYTES: usize = 4096;
 pub(crate) fn identify_numbers(numbers: &Numbers, buffer: &mut [u8]) -> Code
     ensures { IdentifiesNumbers result (numbers_of numbers.now) buffer.old buffer.new }
 {
-    match geometry_of(numbers) {
-        Ok(geometry) => report(geometry, buffer),
-        Err(_) => Code::BadNamespace,
+    match large_of(numbers) {
+        Some(geometry) => report(geometry, buffer),
+        None => Code::BadNamespace,
     }
 }
 
 /// Writes the structure of the namespace, if the buffer has its length.
-pub(crate) fn report(geometry: Geometry, buffer: &mut [u8]) -> Code
+pub(crate) fn report(geometry: LargeGeometry, buffer: &mut [u8]) -> Code
     ensures { Reports result geometry buffer.old buffer.new }
 {
     if buffer.len() != IDENTIFY_BYTES {
@@ -36,7 +36,7 @@ pub(crate) fn report(geometry: Geometry, buffer: &mut [u8]) -> Code
 }
 
 /// Writes the structure of the namespace.
-fn identify(geometry: Geometry, buffer: &mut [u8])
+fn identify(geometry: LargeGeometry, buffer: &mut [u8])
     requires { length buffer.old ≡ 4096 }
     ensures { IsReported geometry buffer.old buffer.new }
 {
@@ -46,7 +46,7 @@ fn identify(geometry: Geometry, buffer: &mut [u8])
 }
 
 /// Its front, up to the last field that is reported.
-fn reported(geometry: Geometry) -> [u8; 44]
+fn reported(geometry: LargeGeometry) -> [u8; 44]
     ensures { result ≡ spec.reported geometry }
 {
     let nsze = geometry.nsze();

@@ -1,27 +1,29 @@
 //! How a namespace is opened: its space, an engine for each port, and a handle for each engine.
-ghost use Rattle.std.specs.Prelude.{◌≡◌, ◌<◌, ◌≤◌, IfErr, IfOk, is_some, length, map, Some};
+ghost use Rattle.std.specs.Prelude.{◌≡◌, ◌⊎◌, ◌<◌, ◌≤◌, IfErr, IfNone, IfOk, IfSome, is_some, length, map, Some};
 ghost use Rattle.std.specs.List.{AllByRecursion, list_any};
-ghost use Rattle.nvm_geometry.specs.Faults.{HasNoFault, IsFirstGeometryFault};
-ghost use Rattle.nvm_space.specs.Spaces.{IsPortCount};
+ghost use Rattle.nvm_geometry.specs.Large.{IsLarge};
+ghost use Rattle.nvm_space.specs.Ports.{AreAllPortsOf, new_ports};
+ghost use Rattle.nvm_space.specs.Spaces.{IsLaidOut, IsPortCount, most_entries};
 ghost use Rattle.nvm_c.specs.Engines.{IsSound, state_of};
 ghost use Rattle.nvm_c.specs.Logs.{kept_by};
 ghost use Rattle.nvm_c.specs.Opening as spec;
-ghost use Rattle.nvm_c.specs.declared.code.Code.TheVariants.{BadLimit};
-ghost use Rattle.nvm_c.specs.Opening.{IsOpened, IsNoneOrLimit, NewPorts, Opens, engines_of, is_open, numbers_of};
+ghost use Rattle.nvm_c.specs.declared.code.Code.TheVariants.{BadLimit, BadNamespace};
+ghost use Rattle.nvm_c.specs.Opening.{AreNoNamespace, IsOpened, IsNoneOrLimit, NewPorts, Opens, engines_of, is_open, limit_asked, limit_of, namespace_asked, numbers_of};
 
 use crate::code::Code;
 use crate::engine::Engine;
 use crate::handle::Handle;
 use crate::log::{Log, Numbering};
 use crate::waiting::JobData;
-use nvm_geometry::{Geometry, GeometryFault};
+use nvm_geometry::{Geometry, LargeGeometry};
 use nvm_record::NoMemory;
-use nvm_space::Space;
+use nvm_space::{Port, Space, SpaceFault};
 use nvm_store::Limit;
+use nvm_unit::Count;
 use std::alloc::{AllocError, Global};
 use std::sync::Arc;
 
-/// The numbers of a namespace as C writes them: those of `Geometry::new`.
+/// The numbers of a namespace as C writes them: those of `LargeGeometry::new`, and with a limit of `Geometry::new`.
 #[repr(C)]
 #[derive(Clone, Copy)]
 pub struct Numbers {
@@ -33,13 +35,50 @@ pub struct Numbers {
     pub nacwu: u16,
 }
 
-/// The geometry of these numbers, or the first fault that applies to them.
-pub(crate) fn geometry_of(numbers: &Numbers) -> Result<Geometry, GeometryFault>
-    ensures taken { IfOk result (λ g. g ≡ numbers_of numbers.now) }
-    ensures sound { IfOk result (λ g. HasNoFault g) }
-    ensures refused { IfErr result (IsFirstGeometryFault (numbers_of numbers.now)) }
+/// What C asks for: with a limit a namespace that can be recorded, and without one a namespace of any size.
+#[derive(Clone, Copy)]
+pub enum Asked {
+    Recorded { geometry: Geometry, limit: Limit },
+    Unrecorded(LargeGeometry),
+}
+
+/// What C asks for by these numbers and this limit, of which 0 is none; or why it can't be had.
+fn asked_by(numbers: &Numbers, limit: u32) -> Result<Asked, Code>
+    ensures namespace { IfOk result (λ asked. namespace_asked asked ≡ numbers_of numbers.now) }
+    ensures limit { IfOk result (λ asked. limit_asked asked ≡ limit_of limit) }
+    ensures taken { IfOk result (λ asked. IsNoneOrLimit limit) }
+    ensures refused { IfErr result (λ code. ((code ≡ BadNamespace) × AreNoNamespace (limit_of limit) (numbers_of numbers.now))
+        ⊎ ((code ≡ BadLimit) × ¬ (IsNoneOrLimit limit))) }
 {
-    Geometry::new(
+    if limit == 0 {
+        let Some(geometry) = large_of(numbers) else {
+            return Err(Code::BadNamespace);
+        };
+        return Ok(Asked::Unrecorded(geometry));
+    }
+    let Ok(geometry) = Geometry::new(
+        numbers.nsze,
+        numbers.block_size,
+        numbers.nabsn,
+        numbers.nabo,
+        numbers.nawun,
+        numbers.nacwu,
+    ) else {
+        return Err(Code::BadNamespace);
+    };
+    match Limit::new(limit) {
+        Some(limit) => Ok(Asked::Recorded { geometry, limit }),
+        None => Err(Code::BadLimit),
+    }
+}
+
+/// The geometry of these numbers, of any size, if there is one.
+pub(crate) fn large_of(numbers: &Numbers) -> Option<LargeGeometry>
+    ensures taken { IfSome result (λ g. g ≡ numbers_of numbers.now) }
+    ensures sound { IfSome result IsLarge }
+    ensures refused { IfNone result (¬ (IsLarge (numbers_of numbers.now))) }
+{
+    LargeGeometry::new(
         numbers.nsze,
         numbers.block_size,
         numbers.nabsn,
@@ -65,33 +104,16 @@ pub(crate) fn open_ports(
     if ports.len() == 0 || ports.len() > 64 {
         return Code::BadPorts;
     }
-    let Ok(geometry) = geometry_of(numbers) else {
-        return Code::BadNamespace;
-    };
-    let limit = match limit_of(limit) {
-        Ok(limit) => limit,
+    let asked = match asked_by(numbers, limit) {
+        Ok(asked) => asked,
         Err(code) => return code,
     };
     let count = ports.len() as u16;
-    let Ok(mut held) = handles(alloc, geometry, count, limit, versions) else {
+    let Ok(mut held) = handles(alloc, &asked, count, versions) else {
         return Code::NoMemory;
     };
     ports.swap_with_slice(&mut held);
     Code::Done
-}
-
-/// The limit that C wrote: 0 is none.
-fn limit_of(limit: u32) -> Result<Option<Limit>, Code>
-    ensures taken { IfOk result (λ most. (most ≡ spec.limit_of limit) × IsNoneOrLimit limit) }
-    ensures refused { IfErr result (λ code. (code ≡ BadLimit) × ¬ (IsNoneOrLimit limit)) }
-{
-    if limit == 0 {
-        return Ok(None);
-    }
-    match Limit::new(limit) {
-        Some(limit) => Ok(Some(limit)),
-        None => Err(Code::BadLimit),
-    }
 }
 
 /// Whether one of them is open.
@@ -109,16 +131,15 @@ fn any_open(ports: &[Handle]) -> bool
 /// Handles on the ports of a new namespace, in their order.
 fn handles(
     alloc: Global,
-    geometry: Geometry,
+    asked: &Asked,
     count: u16,
-    limit: Option<Limit>,
     versions: bool,
 ) -> Result<Vec<Handle>, NoMemory>
     requires { IsPortCount count }
-    ensures opened { IfOk result (λ hs. IsOpened geometry limit versions (engines_of hs.items)) }
+    ensures opened { IfOk result (λ hs. IsOpened (namespace_asked asked.now) (limit_asked asked.now) versions (engines_of hs.items)) }
     ensures count { IfOk result (λ hs. length hs.items ≡ count) }
 {
-    let engines = engines(alloc, geometry, count, &limit, versions)?;
+    let engines = engines(alloc, asked, count, versions)?;
     let mut held = Vec::with_capacity(alloc, engines.len())?;
     for engine in engines {
         held.push_reserved(Handle::of(engine));
@@ -129,24 +150,24 @@ fn handles(
 /// An engine for each port of a new namespace, in their order.
 fn engines(
     alloc: Global,
-    geometry: Geometry,
+    asked: &Asked,
     count: u16,
-    limit: &Option<Limit>,
     versions: bool,
 ) -> Result<Vec<Box<Engine>>, NoMemory>
     requires { IsPortCount count }
-    ensures new { IfOk result (λ bs. NewPorts geometry limit.now versions count (map (λ b. state_of b.value) bs.items)) }
+    ensures new { IfOk result (λ bs. NewPorts (namespace_asked asked.now) (limit_asked asked.now) versions count (map (λ b. state_of b.value) bs.items)) }
     ensures sound { IfOk result (λ bs. AllByRecursion (λ b. IsSound b.value) bs.items) }
 {
-    let Ok((space, ports)) = Space::unrecorded(alloc, geometry, count, *limit, versions) else {
+    let Ok((space, ports)) = opened(alloc, asked, count, versions) else {
         return Err(AllocError);
     };
+    let limit = limit_in(asked);
     let space = Arc::new(alloc, space)?;
     let numbering = Arc::new(alloc, Numbering::new(count))?;
     let mut engines = Vec::with_capacity(alloc, ports.len())?;
     for port in ports {
         let space = Arc::try_clone(&space)?;
-        let log = new_log(alloc, &numbering, limit)?;
+        let log = new_log(alloc, &numbering, &limit)?;
         let engine = Box::new(
             alloc,
             Engine {
@@ -161,6 +182,40 @@ fn engines(
         engines.push_reserved(engine);
     }
     Ok(engines)
+}
+
+/// A new space of the namespace, and its ports.
+fn opened(
+    alloc: Global,
+    asked: &Asked,
+    count: u16,
+    versions: bool,
+) -> Result<(Space<Count>, Vec<Port<Count>>), SpaceFault>
+    ensures namespace { IfOk result (λ s. s.0.namespace ≡ namespace_asked asked.now) }
+    ensures limit { IfOk result (λ s. s.0.limit ≡ most_entries (limit_asked asked.now)) }
+    ensures lists { IfOk result (λ s. s.0.lists ≡ is_some (limit_asked asked.now)) }
+    ensures units { IfOk result (λ s. IsLaidOut s.0) }
+    ensures count { IfOk result (λ s. s.0.ports ≡ count) }
+    ensures ports { IfOk result (λ s. s.1.items ≡ new_ports s.0) }
+    ensures all { IfOk result (λ s. AreAllPortsOf s.0 s.1.items) }
+    ensures versions { IfOk result (λ s. s.0.versions ≡ versions) }
+{
+    match asked {
+        Asked::Recorded { geometry, limit } => {
+            Space::counted(alloc, *geometry, count, *limit, versions)
+        }
+        Asked::Unrecorded(geometry) => Space::unrecorded(alloc, *geometry, count, versions),
+    }
+}
+
+/// The limit of what is recorded.
+fn limit_in(asked: &Asked) -> Option<Limit>
+    ensures { result ≡ limit_asked asked.now }
+{
+    match asked {
+        Asked::Recorded { limit, .. } => Some(*limit),
+        Asked::Unrecorded(_) => None,
+    }
 }
 
 /// The log of a port that has done nothing yet, where the namespace is recorded.

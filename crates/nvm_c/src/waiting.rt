@@ -139,7 +139,7 @@ impl Engine {
             PayloadRef::of(&waiting.data.compared),
             room,
         );
-        let Some((unit, part)) = only else {
+        let Some((region, part)) = only else {
             self.pending = Some(Pending::Waiting(waiting));
             return Code::Pending;
         };
@@ -150,7 +150,7 @@ impl Engine {
             waiting.number,
             waiting.host,
             waiting.fields,
-            unit,
+            region,
             part,
             room,
             posted,

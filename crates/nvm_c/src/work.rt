@@ -139,8 +139,11 @@ impl Engine {
         let Ok(numbering) = Arc::try_clone(&log.numbering) else {
             return Err(RecordCode::NoMemory);
         };
+        let Some(recorded) = self.space.recorded() else {
+            return Err(RecordCode::OtherPorts);
+        };
         Ok(Head {
-            geometry: self.space.geometry(),
+            geometry: recorded.geometry,
             limit: log.limit,
             numbering,
         })
@@ -159,10 +162,13 @@ impl Engine {
         let Some(log) = &self.log else {
             return Err(RecordCode::NoRecord);
         };
+        let Some(recorded) = self.space.recorded() else {
+            return Err(RecordCode::OtherPorts);
+        };
         if !head.numbering.is(&log.numbering)
             || self.port.number() != place
-            || self.space.geometry() != head.geometry
-            || self.space.limit() != Some(head.limit)
+            || recorded.geometry != head.geometry
+            || recorded.limit != head.limit
         {
             return Err(RecordCode::OtherPorts);
         }

@@ -134,7 +134,7 @@ pub fn polled(
 ) -> Result<()> {
     let alloc = rt.alloc();
     let job = jobs.first().context("there is no job")?;
-    ensure!(fits(&namespace, job), "the job doesn't fit");
+    ensure!(fits(&namespace.large(), job), "the job doesn't fit");
     run_alone(rt, namespace, limit, job)?;
     let (space, mut ports) = Space::new(alloc, namespace, 1, limit)?;
     let begun = space.begin_job(alloc, 0, job);

@@ -47,5 +47,5 @@ pub fn record_of<R: Threads + Wait + Sync>(
 fn can_be_run(geometry: &Geometry, job: &Job) -> bool
     ensures { IsTrue result ↔ (FitsNamespace geometry.now job.now × HoldsBody Two job.now.body) }
 {
-    fits(geometry, job) && Version::Two.holds(&job.body)
+    fits(&geometry.large(), job) && Version::Two.holds(&job.body)
 }

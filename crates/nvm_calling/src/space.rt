@@ -9,6 +9,7 @@ ghost use Rattle.nvm_unit.specs.Ends.{views_of};
 ghost use Rattle.nvm_unit.specs.declared.views.PassView.{PassView};
 
 use nvm_geometry::Geometry;
+use nvm_geometry::laws::few_units_are_regions;
 use nvm_plan::Job;
 use nvm_space::laws::{ports_are_changed_in_place, units_end_with_lawful_histories};
 use nvm_space::{JobDone, Port, Progress, Space, SpaceFault};
@@ -41,6 +42,9 @@ pub fn job_alone<R: Wait>(
         (map (λ history. history.items) alone.histories.items)) }
     ensures fault { IfErr result (λ fault. fault ≡ NoMemory) }
 {
+    // For the proof alone: the namespace has no more units than there can be regions, so each unit is a region.
+    let _nsze = geometry.nsze();
+    few_units_are_regions();
     ports_are_changed_in_place();
     units_end_with_lawful_histories();
     let (space, mut ports) = Space::new(alloc, geometry, 1, limit)?;

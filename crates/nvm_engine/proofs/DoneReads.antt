@@ -75,7 +75,7 @@ module _ (in_line : StandInLine) (inside : LiesInside) (meets_units : MeetsItsUn
   -- Where data is recorded of a job, each part read those of its bytes that are of its unit, and there are as many as its blocks have.
   pub data_is_cut : (ns : Namespace) (number : ℕ) (job : Job) (op : Operation) (acts : List PartDone) (old new : List PassView) (told : Statuses)
       (read : Option (List ℕ)) (bytes : List ℕ)
-      → refusal_of ns job ≡ None → job_operation_of ns job ≡ Some op → DoesParts acts old new → AreInTheirUnits ns old
+      → refusal_of ns job ≡ None → job_operation_of ns job ≡ Some op → DoesParts (λ unit. unit) acts old new → AreInTheirUnits ns old
       → AllByRecursion (IsPartOfJob ns number job) acts → AreReplies ns op (replies_to acts) told read → read ≡ Some bytes
       → AllByRecursion (IsCutOf ns op.first op.blocks bytes) (replies_to acts) × (length bytes ≡ op.blocks * ns.block_size)
   data_is_cut ns number job op acts old new told read bytes free stands does places of_job replies e =

@@ -3,6 +3,7 @@ use Rattle.std.proofs.Common.{◌≡◌, ℕ, ◌<◌, ◌≤◌, List, All, len
 use Rattle.nvm_record.specs.Lists.{IsAt}
 use Rattle.nvm_geometry.specs.Boundaries.{units_of}
 use Rattle.nvm_geometry.specs.Faults.{IsValid}
+use Rattle.nvm_geometry.specs.Large.{regions_of}
 use Rattle.nvm_geometry.specs.Namespace.{Namespace}
 use Rattle.nvm_plan.specs.Fits.{FitsNamespace}
 use Rattle.nvm_store.specs.HistoryEntry.{HistoryEntry}
@@ -29,7 +30,7 @@ module _ (answers : AnswerLaws) (marks : MarkLaws) (histories : HistoryLaws) (s 
     (r : RecordView) (shown : JobsAreShown s.namespace r.jobs)
     (shaped : (d : RecordedJob) (old new : List PassView) → HasDoneJob s.namespace r.jobs d old new
     → HasItsShape s.namespace r.jobs d)
-    (gathered : IsGathered s ports r) where
+    (gathered : IsGathered s ports r) (alike : regions_of s.namespace ≡ s.namespace) where
   job_shaped : (worker : ℕ) (work : List RecordedJob) (i : ℕ) (d : RecordedJob) → IsAt r.done worker work → IsAt work i d
       → HasItsShape r.namespace r.jobs d
   job_shaped worker work i d there at =
@@ -46,7 +47,7 @@ module _ (answers : AnswerLaws) (marks : MarkLaws) (histories : HistoryLaws) (s 
       let unit = some_there s.units k (omega arith) in
       subst (λ (ns : Namespace). IsLawfulUnit ns r.limit r.jobs k history (parts_in_unit k r.done)) (sym gathered.namespace)
       (subst (λ (n : ℕ). IsLawfulUnit s.namespace n r.jobs k history (parts_in_unit k r.done)) (sym gathered.limit)
-      (unit_lawful answers marks histories s ports r shown gathered k unit.0 history unit.1 at))
+      (unit_lawful answers marks histories s ports r shown gathered alike k unit.0 history unit.1 at))
 
   within : (unit : ℕ) (history : List HistoryEntry) → IsAt r.units unit history → length history ≤ r.limit
   within unit history at =
@@ -64,7 +65,7 @@ module _ (answers : AnswerLaws) (marks : MarkLaws) (histories : HistoryLaws) (s 
         some_worker = let some : 0 < s.ports = gathered.count.0 in omega (arith, gathered.each_port);
         few_workers = subst (λ (n : ℕ). n ≤ most_workers) (sym gathered.each_port) gathered.count.1;
         jobs = subst (λ (ns : Namespace). All (FitsNamespace ns) r.jobs) (sym gathered.namespace) gathered.fit;
-        all_units = gathered.units ∙ gathered.laid.count ∙ ap units_of (sym gathered.namespace);
+        all_units = gathered.units ∙ gathered.laid.count ∙ ap units_of (alike ∙ sym gathered.namespace);
         within = within;
         all_workers = gathered.workers ∙ sym gathered.each_port;
         reads = whole;

@@ -1,9 +1,12 @@
 -- What a gathered record shows of one unit is lawful.
 use Rattle.std.proofs.Common.{◌≡◌, ℕ, ◌<◌, ◌≤◌, List, length, subst, refl, sym, ap, ◌∙◌, arith, inl, inr, Some}
 use Rattle.nvm_record.specs.Lists.{IsAt}
+use Rattle.nvm_geometry.specs.Large.{regions_of}
+use Rattle.nvm_geometry.specs.Namespace.{Namespace}
 use Rattle.nvm_plan.specs.declared.job.Job.{Job}
 use Rattle.nvm_plan.specs.declared.part.PartResult.TheVariants.{Done}
 use Rattle.nvm_plan.specs.JobPart.{job_part_in}
+use Rattle.nvm_plan.specs.UnitPlace.{IsUnitPlace}
 use Rattle.nvm_store.specs.HistoryEntry.{HistoryEntry}
 use Rattle.nvm_unit.specs.declared.bounds.Bounds.{Bounds}
 use Rattle.nvm_unit.specs.declared.views.PassView.{PassView}
@@ -60,8 +63,13 @@ port_of s ports r gathered worker work at =
     some_there ports worker (omega arith)
 
 module _ (answers : AnswerLaws) (marks : MarkLaws) (histories : HistoryLaws) (s : SpaceName) (ports : List PortState)
-    (r : RecordView) (shown : JobsAreShown s.namespace r.jobs) (gathered : IsGathered s ports r) (k : ℕ) (unit : UnitName)
+    (r : RecordView) (shown : JobsAreShown s.namespace r.jobs) (gathered : IsGathered s ports r)
+    (alike : regions_of s.namespace ≡ s.namespace) (k : ℕ) (unit : UnitName)
     (history : List HistoryEntry) (in_space : IsAt s.units k unit) (in_record : IsAt r.units k history) where
+  -- It lies at the place of the unit of its number, which is a region.
+  place_so : IsUnitPlace s.namespace k unit.bounds.place
+  place_so = subst (λ (ns : Namespace). IsUnitPlace ns k unit.bounds.place) alike (gathered.laid.each k unit in_space).place
+
   pass_of_work : (worker : ℕ) (work : List RecordedJob) → IsAt r.done worker work
       → IsPassOfWork s r.jobs k unit history worker work
   pass_of_work worker work at =
@@ -78,7 +86,7 @@ module _ (answers : AnswerLaws) (marks : MarkLaws) (histories : HistoryLaws) (s 
       (mapped_at (new_pass worker) s.units k unit in_space) in
       let last : IsAt new k pass.0.view = mapped_at (λ (p : PassState). p.view) port.0.passes k pass.0 its in
       let done = work_shown s.namespace r.jobs shown worker work old new (gathered.done worker work port.0 at port.1)
-      (new_port_lies s worker gathered.laid) in
+      (new_port_lies s worker alike gathered.laid) in
       record {
         last = pass.0.view;
         takes = takes_all s.namespace r.jobs k (parts_of_work worker work) done.acts old new (newcomer unit.bounds worker)
@@ -164,7 +172,7 @@ module _ (answers : AnswerLaws) (marks : MarkLaws) (histories : HistoryLaws) (s 
       let its = part_taken j x at in
       let laid = gathered.laid.each k unit in_space in
       rests_so answers s.namespace s.limit r.jobs x its.step.before its.step.after history its.step.taken its.begins
-      (ap (λ (b : Bounds). b.place.size) its.step.bounds ∙ laid.place.size)
+      (ap (λ (b : Bounds). b.place.size) its.step.bounds ∙ place_so.size)
       (ap (λ (b : Bounds). b.limit) its.step.bounds ∙ laid.limit)
 
   parts_in_order : (i j : ℕ) (x y : RecordedPart) → IsAt (parts_in_unit k r.done) i x → IsAt (parts_in_unit k r.done) j y
@@ -180,7 +188,7 @@ module _ (answers : AnswerLaws) (marks : MarkLaws) (histories : HistoryLaws) (s 
   pub unit_lawful : IsLawfulUnit s.namespace s.limit r.jobs k history (parts_in_unit k r.done)
   unit_lawful = record {
     place = unit.bounds.place;
-    lies = (gathered.laid.each k unit in_space).place;
+    lies = place_so;
     lawful = (gathered.ends k unit history in_space in_record).whole.lawful.lawful;
     entries = entry_is_part;
     claimed = entry_claimed;

@@ -96,7 +96,7 @@ module _ (in_line : StandInLine) (inside : LiesInside) (meets_units : MeetsItsUn
     (whole : ReadsAreWhole) (one : PairMeetsOne) where
   pub done_is_shown : (ns : Namespace) (jobs : List Job) (d : RecordedJob) (old new : List PassView) (worker : ℕ) → HasDoneJob ns jobs d old new
       → AreInTheirUnits ns old
-      → (acts : List PartDone) × DoesParts acts old new × AllZip (Shows ns jobs) (parts_left worker d d.parts) acts
+      → (acts : List PartDone) × DoesParts (λ unit. unit) acts old new × AllZip (Shows ns jobs) (parts_left worker d d.parts) acts
   done_is_shown ns jobs d old new worker done places =
       let all = by (replied_to one ns done.job (replies_to done.parts) d.statuses d.payload done.outcome) in
       (done.parts, done.does, subst (λ (parts : List Part). AllZip (Shows ns jobs) (parts_left worker d parts) done.parts) (sym done.listed) all)

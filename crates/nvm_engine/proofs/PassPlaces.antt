@@ -2,6 +2,7 @@
 use Rattle.std.proofs.Common.{◌≡◌, ℕ, zero, suc, List, [], ◌∷◌, map, refl, sym, ap, subst, ◌∙◌, inl, inr}
 use mathlib.Core.Option.{some-injective, some-ne-none}
 use Rattle.nvm_record.specs.Lists.{IsAt}
+use Rattle.nvm_geometry.specs.Large.{regions_of}
 use Rattle.nvm_geometry.specs.Namespace.{Namespace}
 use Rattle.nvm_plan.specs.declared.job.Job.{Job}
 use Rattle.nvm_plan.specs.UnitPlace.{IsUnitPlace}
@@ -58,7 +59,7 @@ module _ (P : ℕ → Bounds → Type 0) where
       ]
 
   -- What is settled of the passes' units stays.
-  pub bounds_stay : (acts : List PartDone) (old new : List PassView) → DoesParts acts old new → HaveBounds P old → HaveBounds P new
+  pub bounds_stay : (acts : List PartDone) (old new : List PassView) → DoesParts (λ unit. unit) acts old new → HaveBounds P old → HaveBounds P new
   bounds_stay [] old new same have = subst (HaveBounds P) (sym same) have
   bounds_stay (did ∷ rest) old new does have =
       bounds_stay rest does.0 new does.2 (step_keeps did.reply.part.unit did old does.0 does.1 have)
@@ -70,11 +71,11 @@ new_view worker [] k view at = absurd (some-ne-none view (sym at))
 new_view worker (unit ∷ units) zero view at = (unit, refl, ap (λ (v : PassView). v.bounds) (sym (some-injective _ view at)))
 new_view worker (unit ∷ units) (suc k) view at = new_view worker units k view at
 
--- The passes of a new port are of units of the namespace.
-pub new_port_lies : (s : SpaceName) (worker : ℕ) → IsLaidOut s → AreInTheirUnits s.namespace (views_of (new_port s.units worker).passes)
-new_port_lies s worker laid k view at =
+-- Where each unit is a region, the passes of a new port are of units of the namespace.
+pub new_port_lies : (s : SpaceName) (worker : ℕ) → regions_of s.namespace ≡ s.namespace → IsLaidOut s → AreInTheirUnits s.namespace (views_of (new_port s.units worker).passes)
+new_port_lies s worker alike laid k view at =
     let found = new_view worker s.units k view at in
-    rw found.2 ((laid.each k found.0 found.1).place)
+    rw found.2 (subst (λ (ns : Namespace). IsUnitPlace ns k found.0.bounds.place) alike (laid.each k found.0 found.1).place)
 
 -- Passes of units of the namespace stay so.
 pub places_stay : (ns : Namespace) (jobs : List Job) (d : RecordedJob) (old new : List PassView) → HasDoneJob ns jobs d old new

@@ -60,7 +60,7 @@ module _ (keep : KeepSizes) (whole : ReadsAreWhole) where
       (sym (ap (λ (r : _). r.payload) look.3) ∙ read))
 
   -- Each part that was done by passes of one block size read exactly the bytes of its blocks.
-  pub parts_read : (size : ℕ) (acts : List PartDone) (old new : List PassView) → DoesParts acts old new → HaveSize size old
+  pub parts_read : (size : ℕ) (acts : List PartDone) (old new : List PassView) → DoesParts (λ unit. unit) acts old new → HaveSize size old
       → AllByRecursion (ReadsItsBytes size) acts
   parts_read size [] old new does have = tt
   parts_read size (did ∷ rest) old new does have =

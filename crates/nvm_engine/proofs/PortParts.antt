@@ -20,9 +20,9 @@ use Rattle.nvm_engine.proofs.OnePass.{TakesIts, TakesAll}
 use Rattle.nvm_engine.proofs.PassPlaces.{AreInTheirUnits, places_stay}
 
 -- Some parts were done, and then others: so all of them were.
-one_then_others : (first rest : List PartDone) (old between new : List PassView) → DoesParts first old between
-    → DoesParts rest between new → DoesParts (first ++ rest) old new
-one_then_others [] rest old between new does then_ = subst (λ (vs : List PassView). DoesParts rest vs new) does then_
+one_then_others : (first rest : List PartDone) (old between new : List PassView) → DoesParts (λ unit. unit) first old between
+    → DoesParts (λ unit. unit) rest between new → DoesParts (λ unit. unit) (first ++ rest) old new
+one_then_others [] rest old between new does then_ = subst (λ (vs : List PassView). DoesParts (λ unit. unit) rest vs new) does then_
 one_then_others (did ∷ first) rest old between new does then_ =
     (does.0, does.1, one_then_others first rest does.0 between new does.2 then_)
 
@@ -37,7 +37,7 @@ zip_both R (x ∷ xs) ys (u ∷ us) vs first rest = (first.0, zip_both R xs ys u
 -- The recorded parts show what was done between these views.
 pub record IsShown (ns : Namespace) (jobs : List Job) (xs : List RecordedPart) (old new : List PassView) : Type 0 where
   pub acts : List PartDone
-  pub does : DoesParts acts old new
+  pub does : DoesParts (λ unit. unit) acts old new
   pub shows : AllZip (Shows ns jobs) xs acts
 
 -- What each done job shows of its parts.
@@ -97,7 +97,7 @@ step_of_pass ns jobs unit x did old new p shows becomes at =
 
 -- The pass of each unit did all the parts of the unit.
 pub takes_all : (ns : Namespace) (jobs : List Job) (unit : ℕ) (xs : List RecordedPart) (acts : List PartDone)
-    (old new : List PassView) (p q : PassView) → AllZip (Shows ns jobs) xs acts → DoesParts acts old new → IsAt old unit p
+    (old new : List PassView) (p q : PassView) → AllZip (Shows ns jobs) xs acts → DoesParts (λ unit. unit) acts old new → IsAt old unit p
     → IsAt new unit q
     → TakesAll ns jobs unit xs p q
 takes_all ns jobs unit [] [] old new p q shows does at now =

@@ -1,9 +1,12 @@
 -- In a gathered record the data of each Read is as long as its blocks.
-use Rattle.std.proofs.Common.{◌≡◌, ℕ, zero, suc, ◌*◌, ◌<◌, List, [], ◌∷◌, length, Some, sym, ap, subst, ◌∙◌, inl, inr, arith}
+use Rattle.std.proofs.Common.{◌≡◌, ℕ, zero, suc, ◌*◌, ◌<◌, ◌≤◌, List, [], ◌∷◌, length, Some, sym, ap, subst, ◌∙◌, inl, inr, arith}
 use Rattle.std.proofs.lemmas.Option.{none-some, same_Some}
 use mathlib.Core.Option.{some-injective, some-ne-none}
 use Rattle.nvm_record.specs.Lists.{IsAt}
 use Rattle.nvm_record.specs.Step.{Operation}
+use Rattle.nvm_geometry.specs.Boundaries.{units_of}
+use Rattle.nvm_geometry.specs.Faults.{most_units}
+use Rattle.nvm_geometry.specs.Large.{regions_of}
 use Rattle.nvm_geometry.specs.Namespace.{Namespace}
 use Rattle.nvm_plan.specs.declared.job.Job.{Job}
 use Rattle.nvm_plan.specs.Checks.{refusal_of}
@@ -57,12 +60,13 @@ module _ (in_line : StandInLine) (inside : LiesInside) (meets_units : MeetsItsUn
   work_is_whole ns jobs (first ∷ work) old new (suc k) d job op bytes done places at its ready e =
       work_is_whole ns jobs work done.0 new k d job op bytes done.2 (places_stay ns jobs first old done.0 done.1 places) at its ready e
 
-  pub gathered_are_whole : (s : SpaceName) (ports : List PortState) (r : RecordView) → IsGathered s ports r → HoldsWholeReads r
-  gathered_are_whole s ports r gathered worker work k d job op bytes at_worker at_job its ready e =
+  pub gathered_are_whole : ((ns : Namespace) → 0 < ns.nsze → units_of ns ≤ most_units → regions_of ns ≡ ns)
+      → (s : SpaceName) (ports : List PortState) (r : RecordView) → IsGathered s ports r → HoldsWholeReads r
+  gathered_are_whole few_alike s ports r gathered worker work k d job op bytes at_worker at_job its ready e =
       let below : worker < length ports =
       omega (arith, at_below r.done worker work at_worker, gathered.workers, gathered.all.count) in
       let port = some_there ports worker below in
       work_is_whole s.namespace r.jobs work (views_of (new_port s.units worker).passes) (views_of port.0.passes) k d job op bytes
-      (gathered.done worker work port.0 at_worker port.1) (new_port_lies s worker gathered.laid) at_job its
+      (gathered.done worker work port.0 at_worker port.1) (new_port_lies s worker (few_alike s.namespace gathered.valid.some gathered.valid.units) gathered.laid) at_job its
       (subst (λ (ns : Namespace). ready_operation ns job ≡ Some op) gathered.namespace ready) e
       ∙ ap (λ (ns : Namespace). op.blocks * ns.block_size) (sym gathered.namespace)

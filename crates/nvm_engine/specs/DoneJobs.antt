@@ -15,7 +15,7 @@ pub record HasDoneJob (ns : Namespace) (jobs : List Job) (d : RecordedJob) (old 
   pub job : Job
   pub its : IsAt jobs d.job job
   pub parts : List PartDone
-  pub does : DoesParts parts old new
+  pub does : DoesParts (λ unit. unit) parts old new
   pub each : AllByRecursion (IsPartOfJob ns d.job job) parts
   pub outcome : IsOutcome ns job (map (λ did. did.reply) parts) d.statuses d.payload
   pub listed : d.parts ≡ map (λ did. did.reply.part) parts

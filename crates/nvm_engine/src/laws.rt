@@ -22,7 +22,7 @@ ghost use Rattle.nvm_engine.specs.StatusNames.{status_name, unknown_status, HasN
 
 use crate::shown_parts::{done_reads_are_whole, parts_show_what_was_done};
 use nvm_audit::laws::done_jobs_are_outcomes;
-use nvm_geometry::laws::parts_keep_their_kind;
+use nvm_geometry::laws::{few_units_are_regions, parts_keep_their_kind};
 use nvm_plan::laws::{parts_of_jobs, shapes_by_plan};
 use nvm_record::laws::success_is_told_alike;
 use nvm_space::laws::calls_keep_their_answers;
@@ -61,6 +61,7 @@ pub fn gathered_records_are_lawful()
     act_succeeds_unless_failed_pair();
     parts_show_what_was_done();
     done_reads_are_whole();
+    few_units_are_regions();
 }
 
 /// The histories of a lawful record are those of which the laws of `nvm_space` speak. So whoever reads a record has the order of all

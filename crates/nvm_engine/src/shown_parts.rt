@@ -20,7 +20,7 @@ ghost use Rattle.nvm_engine.specs.DoneJobs.{HasDoneJob};
 ghost use Rattle.nvm_engine.specs.Gathered.{IsGathered};
 ghost use Rattle.nvm_engine.specs.Inside.Shows.{Shows};
 
-use nvm_geometry::laws::{pieces_stand_in_line, whole_ranges_are_reached};
+use nvm_geometry::laws::{few_units_are_regions, pieces_stand_in_line, whole_ranges_are_reached};
 use nvm_plan::laws::{outcomes_have_their_shape, ready_jobs};
 use nvm_record::laws::steps_keep_block_sizes;
 use nvm_store::laws::lawful_replay_has_block_size;
@@ -31,7 +31,7 @@ pub(crate) fn parts_show_what_was_done()
     ensures shown { (ns : Namespace) (jobs : List PlannedJob) (d : RecordedJob) (old new : List PassView) (worker : ℕ)
         → HasDoneJob ns jobs d old new
         → ((k : ℕ) (view : PassView) → IsAt old k view → IsUnitPlace ns k view.bounds.place)
-        → (acts : List PartDone) × DoesParts acts old new × AllZip (Shows ns jobs) (parts_left worker d d.parts) acts }
+        → (acts : List PartDone) × DoesParts (λ unit. unit) acts old new × AllZip (Shows ns jobs) (parts_left worker d d.parts) acts }
     ensures shape { (ns : Namespace) (jobs : List PlannedJob) (d : RecordedJob) (old new : List PassView)
         → HasDoneJob ns jobs d old new → HasItsShape ns jobs d }
 {
@@ -54,6 +54,7 @@ pub(crate) fn done_reads_are_whole()
 {
     pieces_stand_in_line();
     whole_ranges_are_reached();
+    few_units_are_regions();
     ready_jobs();
     steps_keep_block_sizes();
     lawful_replay_has_block_size();

@@ -9,6 +9,7 @@ ghost use Rattle.nvm_engine.specs.Inside.Working.{recorded_job, HasWorked};
 use crate::claim::Claim;
 use crate::counter::Counter;
 use nvm_audit::DoneJob;
+use nvm_geometry::laws::few_units_are_regions;
 use nvm_plan::laws::{data_comes_with_success, each_command_has_a_status};
 use nvm_plan::{Completions, Job};
 use nvm_record::{NoMemory, Statuses};
@@ -80,6 +81,10 @@ fn do_job<R: Wait, G: Gate>(
 {
     each_command_has_a_status();
     data_comes_with_success();
+    few_units_are_regions();
+    // For the proof alone: where the run is recorded, each unit is a region.
+    let _recorded = space.recorded();
+    let _nsze = space.geometry().nsze();
     let done = space.run_job(rt, alloc, port, number, &jobs[number as usize], gate);
     recorded(number, done)
 }

@@ -39,7 +39,10 @@ impl Range {
         ensures limit { IsWithinPairLimit geometry result.first (result.nlb + 1) }
     {
         let nlb = u16::from(self.nlb).min(geometry.nacwu()) as u8;
-        if geometry.within_pair_limit(self.first, u32::from(nlb) + 1) {
+        if geometry
+            .large()
+            .within_pair_limit(self.first, u32::from(nlb) + 1)
+        {
             Range {
                 first: self.first,
                 nlb,

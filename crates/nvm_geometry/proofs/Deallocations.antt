@@ -3,13 +3,12 @@ use Rattle.std.proofs.Common.{◌≡◌, ◌↔◌, ℕ, ◌+◌, ◌-◌, ◌<�
 use Rattle.std.specs.Prelude.{Contains, IfNone, IfSome, filter, nat_le, nat_lt}
 use Rattle.std.specs.List.{range_with_len}
 use Rattle.std.proofs.Math.Bool.{or_assoc}
-use Rattle.std.proofs.lemmas.Bool.{cases_Bool, cases_lt, or_cases, or_left, or_right, or_from, and_from, and_left, and_right, and_parts, leb-true, ltb-true, le-leb, lt-leb, lt-ltb, le-ltb}
+use Rattle.std.proofs.lemmas.Bool.{cases_Bool, cases_lt, or_cases, or_left, or_right, or_from, and_from, and_left, and_right, and_parts, leb-true, ltb-true, le-leb, lt-leb, lt-ltb, le-ltb, false≢true}
 use Rattle.std.proofs.lemmas.List.Elements.{All-head, All-tail, filter_agree}
 use Rattle.std.proofs.lemmas.List.FromFn.{get_or-map-range_with_len, length-map-range_with_len, map-range_with_len_more}
 use Rattle.nvm_record.specs.declared.lba_range.LbaRange.{LbaRange}
-use Rattle.nvm_record.specs.Deeds.{IsOnRange}
 use Rattle.nvm_record.specs.Ranges.{range_has, ranges_have, range_at, range_count, ranges_of}
-use Rattle.nvm_record.specs.Step.{Operation, is_in_range}
+use Rattle.nvm_record.specs.Step.{Operation, is_in_range, reaches}
 use Rattle.nvm_geometry.specs.Namespace.{Namespace}
 use Rattle.nvm_geometry.specs.Boundaries.{unit_number, units_of}
 use Rattle.nvm_geometry.specs.Deallocation.{EndInNamespace, deallocation, has_block, units_met_from}
@@ -17,7 +16,8 @@ use Rattle.nvm_geometry.specs.Lowest.{IsLowest}
 use Rattle.nvm_geometry.specs.Parts.{blocks_below, blocks_in, reached_in, meets, units_met, units_where}
 use Rattle.nvm_geometry.proofs.Pieces.{filter_none, kept_first}
 use Rattle.nvm_geometry.proofs.Places.{part_inside, place_in, place_here}
-use Rattle.nvm_geometry.proofs.Reached.{reached_all, reached_known, reached_some, some_reached}
+use Rattle.nvm_geometry.proofs.UnitOrder.{count_rises}
+use Rattle.nvm_geometry.proofs.Reached.{reached_known, reached_some, some_reached}
 use Rattle.nvm_geometry.proofs.UnitPlaces.{between_units, unit_between, unit_is_met}
 
 -- one of the ranges has a block in the unit
@@ -350,26 +350,36 @@ pub none_of_lowest : (ns : Namespace) (rs : List LbaRange) (from : ℕ) (o : Opt
 none_of_lowest ns rs from None lowest = units_from_none ns (deallocation ns rs) from lowest
 none_of_lowest ns rs from (Some unit) lowest = tt
 
--- an operation on its whole range meets the units in which the range has a block
-same_units : (ns : Namespace) (op : Operation) (r : LbaRange) (unit : ℕ) → IsOnRange op.deed → r.first ≡ op.first
-    → r.blocks ≡ op.blocks → has_block ns r unit ≡ meets ns op unit
-same_units ns op r unit whole first blocks =
-    rw (first, blocks) (ap (λ n. nat_lt 0 n) (sym (reached_all ns op unit whole)))
+-- a unit is met only where the operation reaches an LBA of it
+not_met : (ns : Namespace) (op : Operation) (unit : ℕ)
+    → ((lba : ℕ) → reaches op lba ≡ true → unit_number ns lba ≡ unit → ⊥)
+    → meets ns op unit ≡ false
+not_met ns op unit none =
+    le-ltb 0 (reached_in ns op unit)
+    (elim (cases_lt 0 (reached_in ns op unit)) [
+      | inl l ↦ let found = some_reached ns op unit l in absurd (none found.0 found.1 found.2)
+      | inr h ↦ h
+    ])
 
--- of these from one on, the lowest comes first
-pub range_meets_first : (ns : Namespace) (op : Operation) (r : LbaRange) (from unit : ℕ) → IsOnRange op.deed
-    → r.first ≡ op.first → r.blocks ≡ op.blocks → r.first + r.blocks ≤ ns.nsze
-    → IsLowest (has_block ns r) from (Some unit)
-    → units_met_from ns op from ≡ unit ∷ units_met_from ns op (unit + 1)
-range_meets_first ns op r from unit whole first blocks inside lowest =
-    let met = lowest_agree (has_block ns r) (meets ns op) from (Some unit)
-    (λ k. same_units ns op r k whole first blocks) lowest in
-    units_from_lowest ns op from unit
-    (reached_known ns op unit (omega (arith, inside, first, blocks)) (ltb-true 0 (reached_in ns op unit) met.1)) met
+-- so the first of the units met is that of the lowest LBA that is reached
+pub lowest_lba_first : (ns : Namespace) (op : Operation) (from lba : ℕ) → op.first + op.blocks ≤ ns.nsze
+    → reaches op lba ≡ true → from ≤ unit_number ns lba
+    → ((x : ℕ) → from ≤ unit_number ns x → x < lba → reaches op x ≡ false)
+    → units_met_from ns op from ≡ unit_number ns lba ∷ units_met_from ns op (unit_number ns lba + 1)
+lowest_lba_first ns op from lba inside reached above least =
+    let some = reached_some ns op (unit_number ns lba) lba reached refl in
+    units_from_lowest ns op from (unit_number ns lba) (reached_known ns op (unit_number ns lba) inside some) (
+      above,
+      lt-ltb 0 (reached_in ns op (unit_number ns lba)) some,
+      (λ k low below. not_met ns op k (λ x has here. elim (cases_lt x lba) [
+        | inl l ↦ false≢true (sym (least x (omega (arith, low, here)) l) ∙ has)
+        | inr h ↦ omega (arith, below, here, count_rises ns.nabsn ns.nabo lba x h)
+      ])),
+    )
 
--- and there are none where there is no lowest
-pub range_meets_none : (ns : Namespace) (op : Operation) (r : LbaRange) (from : ℕ) → IsOnRange op.deed
-    → r.first ≡ op.first → r.blocks ≡ op.blocks → IsLowest (has_block ns r) from None → units_met_from ns op from ≡ []
-range_meets_none ns op r from whole first blocks none =
+-- and none is met where none is reached
+pub no_lba_none : (ns : Namespace) (op : Operation) (from : ℕ)
+    → ((x : ℕ) → from ≤ unit_number ns x → reaches op x ≡ false) → units_met_from ns op from ≡ []
+no_lba_none ns op from none =
     units_from_none ns op from
-    (lowest_agree (has_block ns r) (meets ns op) from None (λ k. same_units ns op r k whole first blocks) none)
+    (λ k low. not_met ns op k (λ x has here. false≢true (sym (none x (omega (arith, low, here))) ∙ has)))

@@ -1,5 +1,6 @@
 pub mod BoundaryCount
 pub mod UnitOrder
+pub mod RegionUnits
 pub mod Counting
 pub mod Pieces
 pub mod Places

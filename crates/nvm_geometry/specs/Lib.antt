@@ -7,3 +7,4 @@ pub mod Parts
 pub mod Turns
 pub mod Lowest
 pub mod Deallocation
+pub mod Large

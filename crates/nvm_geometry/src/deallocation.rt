@@ -9,19 +9,6 @@ use crate::geometry::Geometry;
 use nvm_record::{LbaRange, range_count};
 
 impl Geometry {
-    /// Whether none of these ranges ends above NSZE. One without a block ends where it begins.
-    pub fn ranges_in_range(self, ranges: &[u8]) -> bool
-        ensures { IsTrue result ↔ EndInNamespace self (ranges_of ranges.now) }
-    {
-        for place in 0..range_count(ranges) {
-            let range = LbaRange::at(ranges, place);
-            if !self.in_range(range.first, range.blocks) {
-                return false;
-            }
-        }
-        true
-    }
-
     /// The lowest unit from `from` on that a Deallocate of these ranges meets, which is the lowest in which one of them
     /// has a block: `None` where there is none.
     ///

@@ -10,6 +10,7 @@ ghost use Rattle.nvm_geometry.specs.declared.geometry_fault.GeometryFault.{Geome
 
 use crate::boundaries::{unit_at, unit_start};
 use crate::geometry_fault::GeometryFault;
+use crate::large_geometry::LargeGeometry;
 use nvm_record::BlockSize;
 use std::marker::Model;
 
@@ -184,39 +185,6 @@ impl Geometry {
         (first, (next.min(self.nsze) - first) as u32)
     }
 
-    /// The number of the unit in which the range lies, and `None` where a boundary lies inside it: above its first LBA and at most its
-    /// last. It takes a constant number of steps.
-    #[inline(always)]
-    pub fn unit_of_range(self, slba: u64, blocks: u32) -> Option<u16>
-        requires some { 0 < blocks }
-        requires in_range { slba + blocks ≤ self.nsze }
-        ensures value { IfSome result (λ unit. unit ≡ unit_number self slba) }
-        ensures valid { IfSome result (λ unit. unit < units_of self) }
-        ensures one_unit { IfSome result (λ unit. LiesInUnit self slba blocks) }
-        ensures crossed { IfNone result (Crosses self slba blocks) }
-    {
-        if self.nabsn == 0 {
-            return Some(0);
-        }
-        let unit = self.unit_of(slba);
-        let next = unit_start(self.nabsn, self.nabo, u64::from(unit) + 1);
-        if slba + u64::from(blocks) > next {
-            return None;
-        }
-        Some(unit)
-    }
-
-    /// Whether a boundary lies inside the range: above its first LBA and at most its last. It takes a
-    /// constant number of steps.
-    pub fn crosses(self, slba: u64, blocks: u32) -> bool
-        requires some { 0 < blocks }
-        requires in_range { slba + blocks ≤ self.nsze }
-        ensures crossed { IsTrue result ↔ Crosses self slba blocks }
-        ensures one_unit { OnFalse result (LiesInUnit self slba blocks) }
-    {
-        self.unit_of_range(slba, blocks).is_none()
-    }
-
     /// Whether a write of the range is within the advertised limits: inside one unit, and of at most
     /// NAWUN + 1 blocks.
     pub fn within_write_limit(self, slba: u64, blocks: u32) -> bool
@@ -225,42 +193,28 @@ impl Geometry {
         ensures within { IsTrue result ↔ IsWithinWriteLimit self slba blocks }
         ensures beyond { OnFalse result ((self.nawun + 1 < blocks) ⊎ Crosses self slba blocks) }
     {
-        blocks <= u32::from(self.nawun) + 1 && !self.crosses(slba, blocks)
-    }
-
-    /// The number of the unit in which a fused Compare and Write of the range lies that is within the advertised limits: inside one unit,
-    /// and of at most NACWU + 1 blocks. It is `None` for any other.
-    #[inline(always)]
-    pub fn unit_of_pair(self, slba: u64, blocks: u32) -> Option<u16>
-        requires some { 0 < blocks }
-        requires in_range { slba + blocks ≤ self.nsze }
-        ensures value { IfSome result (λ unit. unit ≡ unit_number self slba) }
-        ensures valid { IfSome result (λ unit. unit < units_of self) }
-        ensures within { IfSome result (λ unit. IsWithinPairLimit self slba blocks) }
-        ensures beyond { IfNone result ((self.nacwu + 1 < blocks) ⊎ Crosses self slba blocks) }
-    {
-        if blocks > u32::from(self.nacwu) + 1 {
-            return None;
-        }
-        self.unit_of_range(slba, blocks)
-    }
-
-    /// Whether a fused Compare and Write of the range is within the advertised limits: inside one unit,
-    /// and of at most NACWU + 1 blocks.
-    pub fn within_pair_limit(self, slba: u64, blocks: u32) -> bool
-        requires some { 0 < blocks }
-        requires in_range { slba + blocks ≤ self.nsze }
-        ensures within { IsTrue result ↔ IsWithinPairLimit self slba blocks }
-        ensures beyond { OnFalse result ((self.nacwu + 1 < blocks) ⊎ Crosses self slba blocks) }
-    {
-        self.unit_of_pair(slba, blocks).is_some()
+        blocks <= u32::from(self.nawun) + 1 && self.large().lies_in_unit(slba, blocks)
     }
 
     /// Whether the range lies below NSZE, for any first LBA and any number of blocks, 0 too.
     pub fn in_range(self, slba: u64, blocks: u32) -> bool
         ensures { IsTrue result ↔ (slba + blocks ≤ self.nsze) }
     {
-        let blocks = u64::from(blocks);
-        blocks <= self.nsze && slba <= self.nsze - blocks
+        self.large().in_range(slba, blocks)
+    }
+
+    /// The same geometry, as one of any size.
+    #[inline(always)]
+    pub fn large(self) -> LargeGeometry
+        ensures { result ≡ self }
+    {
+        LargeGeometry {
+            nsze: self.nsze,
+            block_size: self.block_size,
+            nabsn: self.nabsn,
+            nabo: self.nabo,
+            nawun: self.nawun,
+            nacwu: self.nacwu,
+        }
     }
 }

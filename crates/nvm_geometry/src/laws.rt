@@ -10,7 +10,8 @@ ghost use Rattle.nvm_record.specs.Step.{HasData, HasRangesWithin, Deed, Operatio
 ghost use Rattle.nvm_record.specs.declared.lba_range.LbaRange.{LbaRange as Range};
 ghost use Rattle.nvm_geometry.specs.Boundaries.{IsBoundary, SharesUnit, unit_number, units_of};
 ghost use Rattle.nvm_geometry.specs.Deallocation.{EndInNamespace, deallocation, has_block, units_met_from};
-ghost use Rattle.nvm_geometry.specs.Faults.{HasNoFault, IsValid};
+ghost use Rattle.nvm_geometry.specs.Faults.{HasNoFault, IsValid, most_units};
+ghost use Rattle.nvm_geometry.specs.Large.{IsLarge, region_of, regions_of, units_a_region};
 ghost use Rattle.nvm_geometry.specs.Limits.{LiesInUnit};
 ghost use Rattle.nvm_geometry.specs.Lowest.{IsLowest};
 ghost use Rattle.nvm_geometry.specs.Namespace.{Namespace};
@@ -97,16 +98,14 @@ pub fn whole_ranges_are_reached()
         → Contains (units_met ns op) unit ↔ (0 < (part_in ns op unit).blocks) }
 {}
 
-/// Of the units from `from` on that an operation on its whole range meets, the first is the lowest in which the range
-/// has a block, and there are none where no unit is such.
-pub fn the_lowest_unit_is_met_first()
-    ensures first { (ns : Namespace) (op : Operation) (range : Range) (from unit : ℕ) → IsOnRange op.deed
-        → range.first ≡ op.first → range.blocks ≡ op.blocks → range.first + range.blocks ≤ ns.nsze
-        → IsLowest (has_block ns range) from (Some unit)
-        → units_met_from ns op from ≡ unit ∷ units_met_from ns op (unit + 1) }
-    ensures none { (ns : Namespace) (op : Operation) (range : Range) (from : ℕ) → IsOnRange op.deed
-        → range.first ≡ op.first → range.blocks ≡ op.blocks → IsLowest (has_block ns range) from None
-        → units_met_from ns op from ≡ [] }
+/// Of the units from `from` on that an operation meets, the first is that of the lowest LBA which it reaches there, and there are none where it
+/// reaches none.
+pub fn the_lowest_lba_is_met_first()
+    ensures first { (ns : Namespace) (op : Operation) (from lba : ℕ) → op.first + op.blocks ≤ ns.nsze → IsTrue (reaches op lba)
+        → from ≤ unit_number ns lba → ((x : ℕ) → from ≤ unit_number ns x → x < lba → reaches op x ≡ false)
+        → units_met_from ns op from ≡ unit_number ns lba ∷ units_met_from ns op (unit_number ns lba + 1) }
+    ensures none { (ns : Namespace) (op : Operation) (from : ℕ) → op.first + op.blocks ≤ ns.nsze
+        → ((x : ℕ) → from ≤ unit_number ns x → reaches op x ≡ false) → units_met_from ns op from ≡ [] }
 {}
 
 /// A Deallocate of ranges in the namespace meets exactly the units in which one of them has an LBA. From unit 0 on these
@@ -192,3 +191,21 @@ pub fn parts_are_the_whole()
 {
     laws::cut_ranges_lie_within();
 }
+
+/// A large namespace is kept as few regions, each of whole units: the number of an LBA's region is that of its unit, divided by how many units a
+/// region has. So what lies in one unit lies in one region. A region has a unit at least, and fewer than 2^32 blocks.
+pub fn regions_have_whole_units()
+    ensures number { (ns : Namespace) (lba : ℕ) → IsLarge ns
+        → unit_number (regions_of ns) lba ≡ region_of ns (unit_number ns lba) }
+    ensures inside { (ns : Namespace) (slba blocks : ℕ) → IsLarge ns → LiesInUnit ns slba blocks
+        → LiesInUnit (regions_of ns) slba blocks }
+    ensures covers { (ns : Namespace) (unit first blocks start count : ℕ) → IsLarge ns → IsPlaceOf ns unit first blocks
+        → IsPlaceOf (regions_of ns) (region_of ns unit) start count → (start ≤ first) × (first + blocks ≤ start + count) }
+    ensures some { (ns : Namespace) → IsLarge ns → 0 < units_a_region ns }
+{}
+
+/// Where a namespace has no more units than there can be regions, each unit is a region.
+pub fn few_units_are_regions()
+    ensures unit { (ns : Namespace) (unit : ℕ) → 0 < ns.nsze → units_of ns ≤ most_units → region_of ns unit ≡ unit }
+    ensures same { (ns : Namespace) → 0 < ns.nsze → units_of ns ≤ most_units → regions_of ns ≡ ns }
+{}

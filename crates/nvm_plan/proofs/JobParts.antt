@@ -8,6 +8,7 @@ use Rattle.nvm_record.specs.declared.op.Op.TheVariants.{Write, Read, WriteUncorr
 use Rattle.nvm_record.specs.declared.status.Statuses.{Statuses}
 use Rattle.nvm_record.specs.Deeds.{IsOnRange}
 use Rattle.nvm_record.specs.Op.{carries_ranges}
+use Rattle.nvm_record.specs.Ranges.{ranges_of}
 use Rattle.nvm_record.specs.Step.{HasData, HasRangesWithin, Deed, Operation, writes, zeroes, uncorrectable, reads, compares, pairs}
 use Rattle.nvm_record.specs.declared.lba_range.LbaRange.{LbaRange}
 use Rattle.nvm_geometry.specs.Namespace.{Namespace}
@@ -46,12 +47,10 @@ no_part ns op unit not_met = if_not _ _ not_met
 abbrev pub MeetsByBlocks : Namespace → Type 0
 MeetsByBlocks ns = (op : Operation) (unit : ℕ) → IsOnRange op.deed → op.first + op.blocks ≤ ns.nsze → IsTrue (meets ns op unit) ↔ (0 < (part_in ns op unit).blocks)
 
-piece_there : (ns : Namespace) → MeetsByBlocks ns → (op : Operation) (unit : ℕ) (p : Piece) (part : Operation) → IsOnRange op.deed → op.first + op.blocks ≤ ns.nsze
-    → p ≡ piece_in ns op.first op.blocks unit → 0 < p.blocks → part ≡ part_in ns op p.unit → part_of_ready ns (Some op) unit ≡ Some part
-piece_there ns by_blocks op unit p part whole inside is some same =
-    let unit_is : p.unit ≡ unit = ap (λ (q : Piece). q.unit) is in
-    let many : p.blocks ≡ blocks_in ns op.first op.blocks unit = ap (λ (q : Piece). q.blocks) is in
-    part_there ns op unit ((by_blocks op unit whole inside).1 (omega (arith, many, some))) ∙ ap (λ (o : Operation). Some o) (sym (same ∙ ap (part_in ns op) unit_is))
+piece_there : (ns : Namespace) → MeetsByBlocks ns → (op : Operation) (unit : ℕ) (part : Operation) → IsOnRange op.deed → op.first + op.blocks ≤ ns.nsze
+    → 0 < blocks_in ns op.first op.blocks unit → part ≡ part_in ns op unit → part_of_ready ns (Some op) unit ≡ Some part
+piece_there ns by_blocks op unit part whole inside some same =
+    part_there ns op unit ((by_blocks op unit whole inside).1 some) ∙ ap (λ (o : Operation). Some o) (sym same)
 
 piece_not_there : (ns : Namespace) → MeetsByBlocks ns → (op : Operation) (unit : ℕ) → IsOnRange op.deed → op.first + op.blocks ≤ ns.nsze
     → blocks_in ns op.first op.blocks unit ≡ 0 → part_of_ready ns (Some op) unit ≡ None
@@ -90,12 +89,15 @@ lies_on_range ns (Other opcode) c plain h = h
 
 pub single_there : (ns : Namespace) → MeetsByBlocks ns → (c : Command) (unit : ℕ) (p : Piece) (part : Operation) → IsTrue (is_in_profile c.op) → carries_ranges c.op ≡ false
     → c.slba + (c.nlb + 1) ≤ ns.nsze → p ≡ piece_in ns c.slba (c.nlb + 1) unit → 0 < p.blocks
-    → ((op : Operation) → single_operation ns c.op c ≡ Some op → part ≡ part_in ns op p.unit)
+    → ((op : Operation) → p.first ≡ (piece_in ns c.slba (c.nlb + 1) unit).first → p.blocks ≡ (piece_in ns c.slba (c.nlb + 1) unit).blocks
+    → single_operation ns c.op c ≡ Some op → part ≡ part_in ns op unit)
     → part_of_ready ns (single_operation ns c.op c) unit ≡ Some part
 single_there ns by_blocks c unit p part known plain inside is some all =
     let stands = single_stands ns c.op c known plain in
+    let first = ap (λ (q : Piece). q.first) is in
+    let blocks = ap (λ (q : Piece). q.blocks) is in
     ap (λ (o : Option Operation). part_of_ready ns o unit) stands.2
-    ∙ piece_there ns by_blocks (on_range c stands.0) unit p part stands.1 inside is some (all (on_range c stands.0) stands.2)
+    ∙ piece_there ns by_blocks (on_range c stands.0) unit part stands.1 inside (subst (λ (n : ℕ). 0 < n) blocks some) (all (on_range c stands.0) first blocks stands.2)
 
 pub single_not_there : (ns : Namespace) → MeetsByBlocks ns → (c : Command) (unit : ℕ) → IsTrue (is_in_profile c.op) → carries_ranges c.op ≡ false
     → c.slba + (c.nlb + 1) ≤ ns.nsze → blocks_in ns c.slba (c.nlb + 1) unit ≡ 0 → part_of_ready ns (single_operation ns c.op c) unit ≡ None
@@ -108,12 +110,15 @@ pair_stands ns c d ready = rw (ready.compare, ready.write) refl
 
 pub pair_there : (ns : Namespace) → MeetsByBlocks ns → (c d : Command) (unit : ℕ) (p : Piece) (part : Operation) → IsReadyPair ns c d
     → p ≡ piece_in ns c.slba (c.nlb + 1) unit → 0 < p.blocks
-    → ((op : Operation) → fused_operation c.op d.op c d ≡ Some op → part ≡ part_in ns op p.unit)
+    → ((op : Operation) → p.first ≡ (piece_in ns c.slba (c.nlb + 1) unit).first → p.blocks ≡ (piece_in ns c.slba (c.nlb + 1) unit).blocks
+    → fused_operation c.op d.op c d ≡ Some op → part ≡ part_in ns op unit)
     → part_of_ready ns (fused_operation c.op d.op c d) unit ≡ Some part
 pair_there ns by_blocks c d unit p part ready is some all =
     let stands = pair_stands ns c d ready in
+    let first = ap (λ (q : Piece). q.first) is in
+    let blocks = ap (λ (q : Piece). q.blocks) is in
     ap (λ (o : Option Operation). part_of_ready ns o unit) stands
-    ∙ piece_there ns by_blocks (on_range c (pairs c.payload d.payload)) unit p part refl ready.range is some (all _ stands)
+    ∙ piece_there ns by_blocks (on_range c (pairs c.payload d.payload)) unit part refl ready.range (subst (λ (n : ℕ). 0 < n) blocks some) (all _ first blocks stands)
 
 pub pair_not_there : (ns : Namespace) → MeetsByBlocks ns → (c d : Command) (unit : ℕ) → IsReadyPair ns c d
     → blocks_in ns c.slba (c.nlb + 1) unit ≡ 0 → part_of_ready ns (fused_operation c.op d.op c d) unit ≡ None
@@ -237,3 +242,27 @@ pub there_covered : (ns : Namespace) (job : Job) (unit : ℕ) (lent : Operation)
     → ((place : Place) (part : Operation) → job_part_in ns job unit ≡ Some part → IsUnitPlace ns unit place → IsCovered place part)
     → job_part_in ns job unit ≡ Some lent → (place : Place) → IsUnitPlace ns unit place → IsCovered place lent
 there_covered ns job unit lent all is place lies = all place lent is lies
+
+-- The part of a job that has one, where what is lent is that of its operation, whichever that is.
+pub part_is_lent : (ns : Namespace) (job : Job) (unit : ℕ) (lent : Operation) → IsSome (job_part_in ns job unit)
+    → ((op : Operation) → job_operation_of ns job ≡ Some op → lent ≡ part_in ns op unit) → job_part_in ns job unit ≡ Some lent
+part_is_lent ns job unit lent there all =
+    let its = part_is_known ns job unit there in
+    its.1 ∙ ap (λ (o : Operation). Some o) (sym its.2.part_is ∙ sym (all its.2.op its.2.is))
+
+-- the ranges of a Dataset Management that are deallocated: those of the data that is lent for it
+deallocated_ranges : (deallocate : Bool) (payload lent : List ℕ) → lent ≡ (if deallocate then payload else [])
+    → ranges_of lent ≡ (if deallocate then ranges_of payload else [])
+deallocated_ranges true payload lent is = ap ranges_of is
+deallocated_ranges false payload lent is = ap ranges_of is
+
+-- The part of a Dataset Management in a unit of this place: the ranges that are lent for it, cut to the place.
+pub deallocated_there : (ns : Namespace) (deallocate : Bool) (c : Command) (lent : List ℕ) (unit first blocks : ℕ) (op : Operation)
+    → lent ≡ (if deallocate then c.payload else [])
+    → (first ≡ (piece_in ns 0 ns.nsze unit).first) × (blocks ≡ (piece_in ns 0 ns.nsze unit).blocks)
+    → single_operation ns (Dataset deallocate) c ≡ Some op → deallocate_operation first blocks (ranges_of lent) ≡ part_in ns op unit
+deallocated_there ns deallocate c lent unit first blocks op lent_is same is =
+    let op_is : deallocation ns (ranges_of lent) ≡ op = ap (deallocation ns) (deallocated_ranges deallocate c.payload lent lent_is) ∙ same_Some _ _ is in
+    ap (λ (n : ℕ). deallocate_operation n blocks (ranges_of lent)) same.0
+    ∙ ap (λ (n : ℕ). deallocate_operation (piece_in ns 0 ns.nsze unit).first n (ranges_of lent)) same.1
+    ∙ ap (λ (o : Operation). part_in ns o unit) op_is

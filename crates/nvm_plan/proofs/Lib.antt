@@ -19,4 +19,5 @@ pub mod DataTold
 pub mod JobsFit
 pub mod JobParts
 pub mod ReachOfJobs
+pub mod ReachedLbas
 pub mod OnlyParts

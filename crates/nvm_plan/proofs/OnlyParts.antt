@@ -1,5 +1,5 @@
 -- A job that lies in one unit has one part, which is all that it asks for.
-use Rattle.std.proofs.Common.{◌≡◌, ℕ, ◌+◌, ◌*◌, ◌<◌, ◌≤◌, [], ◌∷◌, List, Some, None, refl, sym, ap, subst, ◌∙◌, arith}
+use Rattle.std.proofs.Common.{◌≡◌, ℕ, ◌+◌, ◌*◌, ◌<◌, ◌≤◌, [], ◌∷◌, List, Option, Some, None, IfSome, refl, sym, ap, subst, ◌∙◌, arith}
 use Rattle.std.specs.List.{Contains}
 use Rattle.nvm_record.specs.Deeds.{IsOnRange}
 use Rattle.nvm_record.specs.Step.{Deed, HasData, HasRangesWithin, Operation, pairs}
@@ -13,11 +13,13 @@ use Rattle.nvm_geometry.specs.Parts.{part_in, units_met}
 use Rattle.nvm_plan.specs.Checks.{refusal_of}
 use Rattle.nvm_plan.specs.Fits.{FitsNamespace, IsWholeBody}
 use Rattle.nvm_plan.specs.JobPart.{job_part_in, job_units}
+use Rattle.nvm_plan.specs.LentPart.{part_operation_of}
 use Rattle.nvm_plan.specs.OnlyPart.{IsOnlyPart}
 use Rattle.nvm_plan.specs.Operation.{fused_operation, job_operation_of, on_range, operation_of_body}
 use Rattle.nvm_plan.specs.declared.job.Body.{Body}
 use Rattle.nvm_plan.specs.declared.job.Body.TheVariants.{Pair}
 use Rattle.nvm_plan.specs.declared.job.Job.{Job}
+use Rattle.nvm_plan.specs.declared.lent_part.LentPart.{LentPart}
 
 -- a job of the body, by some host
 abbrev pub job_of : Body → Job
@@ -31,6 +33,14 @@ pub operation_of_pair : (ns : Namespace) (c d : Command) → c.op ≡ Compare �
 operation_of_pair ns c d compare write =
     subst (λ (op : Op). fused_operation op d.op c d ≡ Some (on_range c (pairs c.payload d.payload))) (sym compare)
     (subst (λ (op : Op). fused_operation Compare op c d ≡ Some (on_range c (pairs c.payload d.payload))) (sym write) refl)
+
+-- what is lent of a range that lies in one unit lies there
+pub whole_in_unit : (ns : Namespace) (slba blocks : ℕ) (lent : Option LentPart) → LiesInUnit ns slba blocks
+    → IfSome lent (λ part. (part_operation_of part).first ≡ slba) → IfSome lent (λ part. (part_operation_of part).blocks ≡ blocks)
+    → IfSome lent (λ part. LiesInUnit ns (part_operation_of part).first (part_operation_of part).blocks)
+whole_in_unit ns slba blocks None lies first_is blocks_are = tt
+whole_in_unit ns slba blocks (Some part) lies first_is blocks_are =
+    subst (λ (first : ℕ). LiesInUnit ns first (part_operation_of part).blocks) (sym first_is) (subst (LiesInUnit ns slba) (sym blocks_are) lies)
 
 -- The whole operation of a job to which no check applies is its only part, where it lies in one unit.
 pub one_part : (ns : Namespace) (job : Job) (op : Operation) → refusal_of ns job ≡ None → job_operation_of ns job ≡ Some op

@@ -23,7 +23,7 @@ ghost use Rattle.nvm_plan.specs.declared.job.Job.{Job};
 use crate::checks::NAMESPACE_IDENTIFIER;
 use crate::laws::{jobs_that_fit_have_their_data, parts_of_jobs, ready_jobs};
 use crate::lent_part::LentPart;
-use nvm_geometry::{Geometry, laws};
+use nvm_geometry::{LargeGeometry, laws};
 use nvm_record::{EntryFields, Fuse, Op, PayloadRef};
 use nvm_store::{ActRef, Look};
 
@@ -36,99 +36,92 @@ pub enum BodyFields {
     Pair(EntryFields, EntryFields),
 }
 
-/// The only part of a job, with its unit. It may be `None`; as it is written it is so where a check refuses the job, where its range lies in several
+/// The only part of a job. It may be `None`; as it is written it is so where a check refuses the job, where its range lies in several
 /// units, and for a Dataset Management. The job's entries have these fields. The payload is that of its command, or of a pair's second, and
 /// `compared` that of a pair's first. It takes no memory and a constant number of steps.
 #[inline(always)]
 pub fn only_part<'a>(
-    geometry: &Geometry,
+    geometry: &LargeGeometry,
     fields: BodyFields,
     payload: PayloadRef<'a>,
     compared: PayloadRef<'a>,
-) -> Option<(u16, LentPart<'a>)>
+) -> Option<LentPart<'a>>
     requires { IsWholeBody geometry.now.block_size (body_lent fields (lent_bytes payload) (lent_bytes compared)) }
-    ensures part { IfSome result (λ only. (job : Job) → job.body ≡ body_lent fields (lent_bytes payload.entry) (lent_bytes compared.entry)
-        → IsOnlyPart geometry.now job only.0 (part_operation_of only.1)) }
-    ensures covered { IfSome result (λ only. (place : UnitPlace) → IsUnitPlace geometry.now only.0 place
-        → IsCovered place (part_operation_of only.1)) }
+    ensures part { IfSome result (λ part. (job : Job) → job.body ≡ body_lent fields (lent_bytes payload.entry) (lent_bytes compared.entry)
+        → IsOnlyPart geometry.now job (unit_number geometry.now (part_operation_of part).first) (part_operation_of part)) }
+    ensures known { IfSome result (λ part. (part_operation_of part).first < geometry.now.nsze) }
+    ensures covered { IfSome result (λ part. (place : UnitPlace) → IsUnitPlace geometry.now (unit_number geometry.now (part_operation_of part).first) place
+        → IsCovered place (part_operation_of part)) }
 {
     laws::one_unit_is_one_part();
     laws::whole_ranges_are_reached();
     ready_jobs();
     parts_of_jobs();
     jobs_that_fit_have_their_data();
-    let (unit, part) = ready_part(geometry, fields, payload, compared)?;
-    Some((unit, part))
+    let part = ready_part(geometry, fields, payload, compared)?;
+    Some(part)
 }
 
-/// The unit of a job's range, and all that the job asks for there, where no check refuses it and it lies in one unit. It may be `None` all the same; as
-/// it is written it is so for a Dataset Management.
+/// All that a job asks for, where no check refuses it and its range lies in one unit. It may be `None` all the same; as it is written it is so for a
+/// Dataset Management.
 #[inline(always)]
 fn ready_part<'a>(
-    geometry: &Geometry,
+    geometry: &LargeGeometry,
     fields: BodyFields,
     payload: PayloadRef<'a>,
     compared: PayloadRef<'a>,
-) -> Option<(u16, LentPart<'a>)>
+) -> Option<LentPart<'a>>
     ensures ready { IfSome result (λ all. IsReadyBody geometry.now (body_lent fields (lent_bytes payload.entry) (lent_bytes compared.entry))) }
-    ensures some { IfSome result (λ all. 0 < (part_operation_of all.1).blocks) }
+    ensures some { IfSome result (λ all. 0 < (part_operation_of all).blocks) }
     ensures part { IfSome result (λ all. operation_of_body geometry.now (body_lent fields (lent_bytes payload.entry) (lent_bytes compared.entry))
-        ≡ Some (part_operation_of all.1)) }
-    ensures deed { IfSome result (λ all. IsOnRange (part_operation_of all.1).deed) }
-    ensures unit { IfSome result (λ all. all.0 ≡ unit_number geometry.now (part_operation_of all.1).first) }
-    ensures inside { IfSome result (λ all. LiesInUnit geometry.now (part_operation_of all.1).first (part_operation_of all.1).blocks) }
+        ≡ Some (part_operation_of all)) }
+    ensures deed { IfSome result (λ all. IsOnRange (part_operation_of all).deed) }
+    ensures inside { IfSome result (λ all. LiesInUnit geometry.now (part_operation_of all).first (part_operation_of all).blocks) }
 {
     match fields {
         BodyFields::Single(alone) => {
-            if !passes_checks(geometry, &alone) {
+            if !passes_checks(geometry, &alone)
+                || !geometry.lies_in_unit(alone.slba, u32::from(alone.nlb) + 1)
+            {
                 return None;
             }
-            let unit = geometry.unit_of_range(alone.slba, u32::from(alone.nlb) + 1)?;
-            let part = whole_part(&alone, payload)?;
-            Some((unit, part))
+            whole_part(&alone, payload)
         }
         BodyFields::Pair(compare, write) => {
-            let unit = unit_of_ready_pair(geometry, &compare, &write)?;
+            if !is_ready_pair(geometry, &compare, &write) {
+                return None;
+            }
             let act = ActRef::Pair {
                 first: compare.slba,
                 blocks: u32::from(compare.nlb) + 1,
                 compare: compared,
                 write: payload,
             };
-            Some((unit, LentPart::Act(act)))
+            Some(LentPart::Act(act))
         }
     }
 }
 
-/// The unit of a pair of these fields, where no check refuses it.
+/// Whether no check refuses a pair of these fields.
 #[inline(always)]
-fn unit_of_ready_pair(
-    geometry: &Geometry,
-    compare: &EntryFields,
-    write: &EntryFields,
-) -> Option<u16>
-    ensures ready { IfSome result (λ unit. (compared written : List ℕ)
+fn is_ready_pair(geometry: &LargeGeometry, compare: &EntryFields, write: &EntryFields) -> bool
+    ensures ready { OnTrue result ((compared written : List ℕ)
         → IsReadyPair geometry.now (command_lent compare.now compared) (command_lent write.now written)) }
-    ensures unit { IfSome result (λ unit. unit ≡ unit_number geometry.now compare.now.slba) }
-    ensures inside { IfSome result (λ unit. LiesInUnit geometry.now compare.now.slba (compare.now.nlb + 1)) }
 {
     let blocks = u32::from(compare.nlb) + 1;
-    if compare.op != Op::Compare
-        || write.op != Op::Write
-        || compare.nsid != NAMESPACE_IDENTIFIER
-        || write.nsid != NAMESPACE_IDENTIFIER
-        || write.slba != compare.slba
-        || write.nlb != compare.nlb
-        || !geometry.in_range(compare.slba, blocks)
-    {
-        return None;
-    }
-    geometry.unit_of_pair(compare.slba, blocks)
+    compare.op == Op::Compare
+        && write.op == Op::Write
+        && compare.nsid == NAMESPACE_IDENTIFIER
+        && write.nsid == NAMESPACE_IDENTIFIER
+        && write.slba == compare.slba
+        && write.nlb == compare.nlb
+        && geometry.in_range(compare.slba, blocks)
+        && geometry.within_pair_limit(compare.slba, blocks)
 }
 
 /// Whether a command by itself on a range passes all checks but that of its opcode.
 #[inline(always)]
-fn passes_checks(geometry: &Geometry, fields: &EntryFields) -> bool
+fn passes_checks(geometry: &LargeGeometry, fields: &EntryFields) -> bool
     ensures fuse { OnTrue result (fields.now.fuse ≡ Normal) }
     ensures nsid { OnTrue result (fields.now.nsid ≡ namespace_identifier) }
     ensures range { OnTrue result (fields.now.slba + (fields.now.nlb + 1) ≤ geometry.now.nsze) }

@@ -2,15 +2,15 @@ ghost use Rattle.std.specs.Prelude.{◌≡◌, ◌+◌, ◌<◌, ◌≤◌, not}
 ghost use Rattle.nvm_record.specs.Status.{aborted_due_to_failed_fused_command};
 ghost use Rattle.nvm_record.specs.declared.status.Statuses.TheVariants.{Two};
 ghost use Rattle.nvm_plan.specs.Checks as spec;
-ghost use Rattle.nvm_plan.specs.Checks.{checks, single_checks, pair_checks, first_answer, ends_above};
+ghost use Rattle.nvm_plan.specs.Checks.{single_checks, pair_checks, first_answer, ends_above, refusal_of};
 ghost use Rattle.nvm_plan.specs.Ready.{IsReady, IsPlan, IfReady};
 
 use crate::decision::Plan;
 use crate::job::{Body, Job};
 use crate::laws;
 use crate::profile::is_in_profile;
-use nvm_geometry::Geometry;
 use nvm_geometry::laws::sharing_is_one_number;
+use nvm_geometry::{Geometry, LargeGeometry};
 use nvm_record::{Command, Fuse, Op, Status, Statuses};
 
 /// The identifier of the one namespace that there is.
@@ -29,30 +29,30 @@ pub(crate) const NAMESPACE_IDENTIFIER: u32 = 1;
 ///
 /// The ranges of a Dataset Management are all looked at, with the Deallocate bit or without it. A range without a
 /// block ends where it begins.
-#[tactic(auto, unfolding(crate::specs::Checks::refusal_of))]
 pub fn plan(geometry: &Geometry, job: &Job) -> Plan
     ensures table { IsPlan geometry.now job.now result }
     ensures ready { IfReady result (IsReady geometry.now job.now) }
 {
     laws::ready_jobs();
-    match refusal(*geometry, &job.body) {
+    match refusal(&geometry.large(), job) {
         Some(statuses) => Plan::Refused(statuses),
         None => Plan::Ready,
     }
 }
 
-/// The statuses with which a job is refused, if it is.
-fn refusal(geometry: Geometry, body: &Body) -> Option<Statuses>
-    ensures { result ≡ first_answer (checks geometry body.now) }
+/// The statuses with which a job is refused on a namespace of any size: what [`plan`] answers, and `None` where it is ready.
+#[tactic(auto, unfolding(crate::specs::Checks::refusal_of))]
+pub fn refusal(geometry: &LargeGeometry, job: &Job) -> Option<Statuses>
+    ensures { result ≡ refusal_of geometry.now job.now }
 {
-    match body {
-        Body::Single(command) => single_refusal(geometry, command),
-        Body::Pair(first, second) => pair_refusal(geometry, first, second),
+    match &job.body {
+        Body::Single(command) => single_refusal(*geometry, command),
+        Body::Pair(first, second) => pair_refusal(*geometry, first, second),
     }
 }
 
 /// The status with which a command by itself is refused, if it is.
-fn single_refusal(geometry: Geometry, command: &Command) -> Option<Statuses>
+fn single_refusal(geometry: LargeGeometry, command: &Command) -> Option<Statuses>
     ensures { result ≡ first_answer (single_checks geometry command.now) }
 {
     if !is_in_profile(command.op) {
@@ -75,7 +75,7 @@ fn single_refusal(geometry: Geometry, command: &Command) -> Option<Statuses>
 }
 
 /// Whether the command's range lies in the namespace, or each of its ranges does.
-fn lies_in_namespace(geometry: Geometry, command: &Command) -> bool
+fn lies_in_namespace(geometry: LargeGeometry, command: &Command) -> bool
     ensures { not result ≡ ends_above geometry command.now }
 {
     if command.op.carries_ranges() {
@@ -85,7 +85,7 @@ fn lies_in_namespace(geometry: Geometry, command: &Command) -> bool
 }
 
 /// The statuses with which a fused pair is refused, if it is.
-fn pair_refusal(geometry: Geometry, first: &Command, second: &Command) -> Option<Statuses>
+fn pair_refusal(geometry: LargeGeometry, first: &Command, second: &Command) -> Option<Statuses>
     ensures { result ≡ first_answer (pair_checks geometry first.now second.now) }
 {
     if !matches!((first.op, second.op), (Op::Compare, Op::Write)) {
@@ -121,7 +121,7 @@ fn write_aborted(compare: Status) -> Statuses
 }
 
 /// Whether a pair of the range has more blocks than the limit allows, or crosses a boundary.
-fn exceeds_pair_limit(geometry: Geometry, slba: u64, blocks: u32) -> bool
+fn exceeds_pair_limit(geometry: LargeGeometry, slba: u64, blocks: u32) -> bool
     requires some { 0 < blocks }
     requires in_range { slba + blocks ≤ geometry.nsze }
     ensures { result ≡ spec.exceeds_pair_limit geometry slba blocks }

@@ -3,7 +3,7 @@ ghost use Rattle.nvm_plan.specs.Fits.{FitsNamespace};
 
 use crate::job::{Body, Job};
 use crate::profile::is_fused_pair;
-use nvm_geometry::Geometry;
+use nvm_geometry::LargeGeometry;
 
 /// Hosts are numbered from 1 to this.
 pub const MOST_HOSTS: u16 = 64;
@@ -13,7 +13,7 @@ pub const MOST_HOSTS: u16 = 64;
 /// `Other` that has a name, and a pair is a first and a second of the profile. A Dataset Management as an
 /// unknown opcode without data is taken too, since it was one once: [`plan`](crate::plan) refuses it. It takes no
 /// memory.
-pub fn fits(geometry: &Geometry, job: &Job) -> bool
+pub fn fits(geometry: &LargeGeometry, job: &Job) -> bool
     ensures { IsTrue result ↔ FitsNamespace geometry.now job.now }
 {
     if job.host == 0 || job.host > MOST_HOSTS {

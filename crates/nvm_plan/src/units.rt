@@ -1,8 +1,7 @@
-ghost use Rattle.std.specs.Prelude.{◌≡◌, ◌+◌, ◌≤◌, [], ◌∷◌, IfNone, IfSome, None, length};
+ghost use Rattle.std.specs.Prelude.{◌≡◌, ◌≤◌, None, length};
 ghost use Rattle.nvm_geometry.specs.Boundaries.{units_of};
 ghost use Rattle.nvm_plan.specs.Checks.{refusal_of};
 ghost use Rattle.nvm_plan.specs.JobPart as spec;
-ghost use Rattle.nvm_plan.specs.JobPart.{job_units_from};
 
 use crate::checks::plan;
 use crate::decision::Plan;
@@ -10,7 +9,6 @@ use crate::job::Job;
 use crate::laws::{parts_of_jobs, ready_jobs};
 use crate::reach::{Reach, reach_of};
 use nvm_geometry::{Geometry, Parts, laws};
-use nvm_record::LbaRange;
 use std::marker::Model;
 
 /// The numbers of the units in which a job has a part, ascending: what [`job_units`] gives.
@@ -113,23 +111,6 @@ pub fn ready_part_count(geometry: &Geometry, job: &Job) -> u16
     match reach_of(&job.body) {
         Reach::Range { first, blocks } => geometry.piece_count(first, blocks),
         Reach::Ranges(ranges) => geometry.met_count(ranges.as_slice()),
-    }
-}
-
-/// The lowest unit from `from` on in which a job has a part, where no check applies to the job: `None` where there is no
-/// such unit. It takes no memory and a constant number of steps, and for a Dataset Management a walk over its ranges.
-pub fn next_job_unit(geometry: &Geometry, job: &Job, from: u16) -> Option<u16>
-    requires { refusal_of geometry.now job.now ≡ None }
-    ensures first { IfSome result (λ unit. job_units_from geometry.now job.now from
-        ≡ unit ∷ job_units_from geometry.now job.now (unit + 1)) }
-    ensures none { IfNone result (job_units_from geometry.now job.now from ≡ []) }
-{
-    laws::the_lowest_unit_is_met_first();
-    ready_jobs();
-    parts_of_jobs();
-    match reach_of(&job.body) {
-        Reach::Range { first, blocks } => geometry.next_of_range(LbaRange { first, blocks }, from),
-        Reach::Ranges(ranges) => geometry.next_met(ranges.as_slice(), from),
     }
 }
 

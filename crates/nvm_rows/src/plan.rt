@@ -25,7 +25,7 @@ pub fn answer(alloc: Global, call: &[&str]) -> Result<String, RowFault> {
 
 /// The parts of a job that fits, each with its unit.
 fn parts(alloc: Global, geometry: &Geometry, job: &Job) -> Result<String, RowFault> {
-    if !fits(geometry, job) {
+    if !fits(&geometry.large(), job) {
         return Err(RowFault::Unread);
     }
     let count = job_part_count(geometry, job);

@@ -1,17 +1,20 @@
 -- New units, and the ports that have their passes.
-use Rattle.std.proofs.Common.{Bool, Option, ◌≡◌, ℕ, zero, suc, ◌+◌, ◌<◌, List, [], ◌∷◌, ◌++◌, length, length-append, map, refl, sym, ap, ◌∙◌, subst, arith, inl, inr}
+use Rattle.std.proofs.Common.{Bool, Option, is_some, ◌≡◌, ℕ, zero, suc, ◌+◌, ◌<◌, List, [], ◌∷◌, ◌++◌, length, length-append, map, refl, sym, ap, ◌∙◌, subst, arith, inl, inr}
 use Rattle.std.specs.List.{range_with_len}
 use Rattle.std.proofs.lemmas.List.{length-map}
 use Rattle.std.proofs.lemmas.List.FromFn.{length-range_with_len}
 use mathlib.Core.Option.{some-ne-none}
 use Rattle.nvm_record.specs.Lists.{IsAt}
 use Rattle.nvm_geometry.specs.Boundaries.{units_of}
+use Rattle.nvm_geometry.specs.Large.{regions_of}
 use Rattle.nvm_geometry.specs.Namespace.{Namespace}
 use Rattle.nvm_unit.specs.Ends.{new_passes}
 use Rattle.nvm_unit.specs.Passes.{UnitName, PassState}
 use Rattle.nvm_space.specs.Inside.Dealing.{space_of, with_one_more, AreDealt, HaveOneMore}
+use Rattle.nvm_space.specs.Inside.Recorded.{limit_of}
 use Rattle.nvm_space.specs.Ports.{PortState, AreAllPortsOf, new_pass, new_port, new_ports}
-use Rattle.nvm_space.specs.Spaces.{SpaceName, IsUnitOf, IsLaidOut}
+use Rattle.nvm_space.specs.Spaces.{SpaceName, IsUnitOf, IsLaidOut, most_entries}
+use Rattle.nvm_space.specs.declared.space.Recorded.{Recorded}
 use Rattle.nvm_space.proofs.Lists.{at_one, at_below, at_some, at_more, at_map_back, map_more}
 
 -- the port so far, with one pass more
@@ -72,12 +75,23 @@ laid_one_more ns ports limit versions n units unit laid is = record {
       ];
 }
 
-pub all_laid : (ns : Namespace) (ports : ℕ) (limit : Option ℕ) (versions : Bool) (n : ℕ) (units : List UnitName) → AreLaid ns ports limit versions n units → n ≡ units_of ns → IsLaidOut (space_of ns ports limit versions units)
+pub all_laid : (ns : Namespace) (ports : ℕ) (limit : Option ℕ) (versions : Bool) (n : ℕ) (units : List UnitName) → AreLaid ns ports limit versions n units → n ≡ units_of (regions_of ns) → IsLaidOut (space_of ns ports limit versions units)
 all_laid ns ports limit versions n units laid all = record {
   count = laid.count ∙ all;
   each = λ k unit at.
       let is = laid.each k unit at in
       record { number = is.number; place = is.place; passes = is.passes; limit = is.limit; versions = is.versions };
+}
+
+-- So they are of the space whose record has that limit.
+pub laid_as_recorded : (ns : Namespace) (ports : ℕ) (recorded : Option Recorded) (limit : Option ℕ) (versions : Bool) (units : List UnitName) → limit ≡ limit_of recorded
+    → IsLaidOut (space_of ns ports limit versions units)
+    → IsLaidOut (record { namespace = ns; ports = ports; limit = most_entries (limit_of recorded); lists = is_some recorded; versions = versions; units = units })
+laid_as_recorded ns ports recorded limit versions units is laid = record {
+  count = laid.count;
+  each = λ k unit at.
+      let its = laid.each k unit at in
+      record { number = its.number; place = its.place; passes = its.passes; limit = its.limit ∙ ap most_entries is; versions = its.versions };
 }
 
 -- The ports of a new space are all its ports.

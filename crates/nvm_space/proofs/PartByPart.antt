@@ -9,6 +9,7 @@ use Rattle.nvm_record.specs.Deeds.{is_look, is_pair, success_of, IsAct, IsLook, 
 use Rattle.nvm_record.specs.Medium.{Medium}
 use Rattle.nvm_record.specs.Status.{IsSuccess, internal_error}
 use Rattle.nvm_record.specs.Step.{Operation}
+use Rattle.nvm_geometry.specs.Large.{region_of}
 use Rattle.nvm_geometry.specs.Namespace.{Namespace}
 use Rattle.nvm_geometry.specs.Deallocation.{units_met_from}
 use Rattle.nvm_geometry.specs.Parts.{part_in, units_met}
@@ -34,10 +35,10 @@ all_more : {X : Type 0} (P : X → Type 0) (xs : List X) (y : X) → AllByRecurs
 all_more P [] y all here = (here, tt)
 all_more P (x ∷ xs) y all here = (all.0, all_more P xs y all.1 here)
 
-does_more : (parts : List PartDone) (did : PartDone) (start now new : List PassView) → DoesParts parts start now → BecomesAt did.reply.part.unit (DoesPart did) now new
-    → DoesParts (parts ++ did ∷ []) start new
-does_more [] did start now new does more = (new, subst (λ (vs : List PassView). BecomesAt did.reply.part.unit (DoesPart did) vs new) does more, refl)
-does_more (first ∷ parts) did start now new does more = (does.0, does.1, does_more parts did does.0 now new does.2 more)
+does_more : (region : ℕ → ℕ) (parts : List PartDone) (did : PartDone) (start now new : List PassView) → DoesParts region parts start now → BecomesAt (region did.reply.part.unit) (DoesPart did) now new
+    → DoesParts region (parts ++ did ∷ []) start new
+does_more region [] did start now new does more = (new, subst (λ (vs : List PassView). BecomesAt (region did.reply.part.unit) (DoesPart did) vs new) does more, refl)
+does_more region (first ∷ parts) did start now new does more = (does.0, does.1, does_more region parts did does.0 now new does.2 more)
 
 -- the pass of a unit became another so, and so in another way
 becomes_too : (k : ℕ) (So Too : PassView → PassView → Type 0) (old new : List PassView) → ((p q : PassView) → So p q → Too p q) → BecomesAt k So old new → BecomesAt k Too old new
@@ -70,7 +71,7 @@ one_longer false listed part on = absurd (let bad = on in cc bad)
 pub record IsStep (ns : Namespace) (number : ℕ) (job : Job) (op : Operation) (unit : ℕ) (now new : List PassView)
     (bytes more : List ℕ) (part : Part) (statuses : Statuses) : Type 0 where
   pub did : PartDone
-  pub becomes : BecomesAt unit (DoesPart did) now new
+  pub becomes : BecomesAt (region_of ns unit) (DoesPart did) now new
   pub of_job : IsPartOfJob ns number job did
   pub at : did.reply.part.unit ≡ unit
   pub its_part : did.reply.part ≡ part
@@ -80,32 +81,32 @@ pub record IsStep (ns : Namespace) (number : ℕ) (job : Job) (op : Operation) (
 
 -- what a unit reported about the job's part there, with its data gathered
 pub step_of : (ns : Namespace) (number : ℕ) (job : Job) (op part : Operation) (unit : ℕ) (now new : List PassView) (bytes more : List ℕ) (r : PartReply) (ended : Part) (statuses : Statuses)
-    → BecomesAt unit (DoesPart (part_done number part (reply_told r))) now new → r.unit ≡ unit → job_part_in ns job unit ≡ Some part
-    → ((p q : PassView) → DoesPart (part_done number part (reply_told r)) p q → IsReplyTo op.deed (reply_told r))
+    → BecomesAt (region_of ns unit) (DoesPart (part_done number part (reply_told unit r))) now new → job_part_in ns job unit ≡ Some part
+    → ((p q : PassView) → DoesPart (part_done number part (reply_told unit r)) p q → IsReplyTo op.deed (reply_told unit r))
     → ((point : ℕ) → IsReplyTo op.deed (reply_of_stop part.deed (part_ended unit point result.NoMemory)))
-    → IsGathered r bytes more ended statuses
+    → IsGathered unit r bytes more ended statuses
     → IsStep ns number job op unit now new bytes more ended statuses
-step_of ns number job op part unit now new bytes more r ended statuses becomes at in_unit replies stops (inl kept) = record {
-  did = part_done number part (reply_told r);
+step_of ns number job op part unit now new bytes more r ended statuses becomes in_unit replies stops (inl kept) = record {
+  did = part_done number part (reply_told unit r);
   becomes = becomes;
-  of_job = (refl, ap (λ (u : ℕ). job_part_in ns job u) at ∙ in_unit);
-  at = at;
+  of_job = (refl, in_unit);
+  at = refl;
   its_part = sym kept.0;
   told = sym kept.1;
   reply = replies becomes.before becomes.after becomes.so;
   goes = λ success. kept.2;
 }
-step_of ns number job op part unit now new bytes more r ended statuses becomes at in_unit replies stops (inr none) =
-    let told : stop_of part.deed ≡ One internal_error = told_one number part (reply_told r) becomes.before becomes.after none.0 becomes.so in
+step_of ns number job op part unit now new bytes more r ended statuses becomes in_unit replies stops (inr none) =
+    let told : stop_of part.deed ≡ One internal_error = told_one number part (reply_told unit r) becomes.before becomes.after none.0 becomes.so in
     record {
-      did = part_done number part (reply_of_stop part.deed (part_ended r.unit r.point result.NoMemory));
-      becomes = becomes_too unit _ (DoesPart (part_done number part (reply_of_stop part.deed (part_ended r.unit r.point result.NoMemory)))) now new
-          (λ p q does. found_no_memory number part (reply_told r) p q none.0 does) becomes;
-      of_job = (refl, ap (λ (u : ℕ). job_part_in ns job u) at ∙ in_unit);
-      at = at;
+      did = part_done number part (reply_of_stop part.deed (part_ended unit r.point result.NoMemory));
+      becomes = becomes_too (region_of ns unit) _ (DoesPart (part_done number part (reply_of_stop part.deed (part_ended unit r.point result.NoMemory)))) now new
+          (λ p q does. found_no_memory number part (reply_told unit r) p q none.0 does) becomes;
+      of_job = (refl, in_unit);
+      at = refl;
       its_part = sym none.1;
       told = told ∙ sym none.2;
-      reply = subst (λ (u : ℕ). IsReplyTo op.deed (reply_of_stop part.deed (part_ended u r.point result.NoMemory))) (sym at) (stops r.point);
+      reply = stops r.point;
       goes = λ success. absurd (internal_error_fails (subst IsSuccess none.2 success));
     }
 
@@ -127,7 +128,7 @@ module _ (ns : Namespace) (lists : Bool) (number : ℕ) (job : Job) (op : Operat
       let longer : map (λ (d : PartDone). d.reply) (have.parts ++ did ∷ []) ≡ replies ++ did.reply ∷ [] = map_more (λ (d : PartDone). d.reply) have.parts did in
       record {
         parts = have.parts ++ did ∷ [];
-        does = does_more have.parts did start now new have.does (subst (λ (u : ℕ). BecomesAt u (DoesPart did) now new) (sym step.at) step.becomes);
+        does = does_more (region_of ns) have.parts did start now new have.does (subst (λ (u : ℕ). BecomesAt (region_of ns u) (DoesPart did) now new) (sym step.at) step.becomes);
         each = all_more (IsPartOfJob ns number job) have.parts did have.each step.of_job;
         done = subst (λ (rs : List Reply). AreDone ns op rs left) (sym longer)
             (more replies did.reply left (subst (λ (u : ℕ). AreDone ns op replies (u ∷ left)) (sym step.at) have.done)
@@ -161,7 +162,7 @@ module _ (ns : Namespace) (lists : Bool) (number : ℕ) (job : Job) (op : Operat
       let so = stopped replies did.reply left (subst (λ (u : ℕ). AreDone ns op replies (u ∷ left)) (sym step.at) have.done) step.reply (λ ok. failure (subst IsSuccess step.told ok)) in
       record {
         parts = have.parts ++ did ∷ [];
-        does = does_more have.parts did start now new have.does (subst (λ (u : ℕ). BecomesAt u (DoesPart did) now new) (sym step.at) step.becomes);
+        does = does_more (region_of ns) have.parts did start now new have.does (subst (λ (u : ℕ). BecomesAt (region_of ns u) (DoesPart did) now new) (sym step.at) step.becomes);
         each = all_more (IsPartOfJob ns number job) have.parts did have.each step.of_job;
         told = statuses;
         read = None;
@@ -198,11 +199,11 @@ pub step_so : (ns : Namespace) (number : ℕ) (job : Job) (op part : Operation) 
     → ((p : Part) → p.result ≡ result.NoMemory → IsReplyTo op.deed (reply_of_stop op.deed p))
     → ((p : Part) → IsAct op.deed → p.result ≡ result.Full → IsReplyTo op.deed (reply_of_stop op.deed p))
     → part ≡ part_in ns op unit → job_part_in ns job unit ≡ Some part
-    → r.unit ≡ unit → BecomesAt unit (DoesPart (part_done number part (reply_told r))) now new → IsGathered r bytes more ended statuses
+    → BecomesAt (region_of ns unit) (DoesPart (part_done number part (reply_told unit r))) now new → IsGathered unit r bytes more ended statuses
     → IsStep ns number job op unit now new bytes more ended statuses
-step_so ns number job op part unit now new bytes more r ended statuses look pair looked failed no_memory full is in_unit at becomes gathered =
-    step_of ns number job op part unit now new bytes more r ended statuses becomes at in_unit
-    (λ p q does. part_replies ns op part unit is look pair looked failed no_memory full number (reply_told r) p q at does)
+step_so ns number job op part unit now new bytes more r ended statuses look pair looked failed no_memory full is in_unit becomes gathered =
+    step_of ns number job op part unit now new bytes more r ended statuses becomes in_unit
+    (λ p q does. part_replies ns op part unit is look pair looked failed no_memory full number (reply_told unit r) p q refl does)
     (stop_replies ns op part unit is look pair looked failed no_memory full) gathered
 
 -- The unit of the next part is one of the job's.

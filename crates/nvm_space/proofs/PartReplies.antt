@@ -1,5 +1,5 @@
 -- What a unit reports about a part is a reply to the job's part there.
-use Rattle.std.proofs.Common.{◌≡◌, inl, inr, ℕ, List, [], ◌++◌, Bool, true, false, not, IsTrue, Option, Some, None, IsSome, Ok, Err, Result, unwrap_or, if◌then◌else◌, length, refl, sym, ap, ◌∙◌, subst, append-nil}
+use Rattle.std.proofs.Common.{◌≡◌, inl, inr, ℕ, List, [], ◌++◌, Bool, true, false, not, IsTrue, Option, Some, None, IsSome, Ok, Err, Result, unwrap_or, if◌then◌else◌, length, ◌≤◌, arith, refl, sym, ap, ◌∙◌, subst, append-nil}
 use Rattle.nvm_record.specs.declared.status.Statuses.{Statuses}
 use Rattle.nvm_record.specs.declared.status.Statuses.TheVariants.{One, Two}
 use Rattle.nvm_record.specs.Deeds.{is_look, is_pair, IsAct, IsLook, IsFailedPair}
@@ -21,6 +21,9 @@ use Rattle.nvm_plan.specs.Shape.{IsForEach, IsTwoStatuses}
 use Rattle.nvm_plan.specs.declared.job.Body.{Body}
 use Rattle.nvm_plan.specs.declared.job.Body.TheVariants.{Pair, Single}
 use Rattle.nvm_plan.specs.Reply.{Reply, reply_on, reply_of_stop, stop_of, IsReplyTo}
+use Rattle.nvm_store.specs.HistoryEntry.{HistoryEntry}
+use Rattle.nvm_unit.specs.Passes.{Finds}
+use Rattle.nvm_unit.specs.declared.bounds.Bounds.{Bounds}
 use Rattle.nvm_unit.specs.declared.replies.Changed.{Changed}
 use Rattle.nvm_unit.specs.declared.replies.Changed.TheVariants.{Done, Failed, NoMemory, Full}
 use Rattle.nvm_unit.specs.declared.replies.Observed.{Observed}
@@ -257,3 +260,34 @@ pub data_alike : (host : ℕ) (body : Body) (statuses : Statuses) (read : Option
     → unwrap_or read old ≡ unwrap_or (data_in (body_completions host body statuses read)) old
 data_alike host (Single c) statuses read old each none = refl
 data_alike host (Pair c d) statuses read old each none = ap (λ (r : Option (List ℕ)). unwrap_or r old) (none each)
+
+-- the point on which a change was reported
+change_rests : (unit : ℕ) (deed : Deed) (changed : Changed) (entries limit : ℕ) (op : Operation) (m : Medium) → AnswersChange changed entries limit op m
+    → (reply_of_change unit deed changed).part.point ≡ entries
+change_rests unit deed (Done point) entries limit op m answer = answer.0
+change_rests unit deed (Failed point statuses) entries limit op m answer = answer.0
+change_rests unit deed (NoMemory point) entries limit op m answer = answer.0
+change_rests unit deed (Full point) entries limit op m answer = answer.0
+
+look_rests : (unit : ℕ) (deed : Deed) (answer : Result Observed ObserveFault) (entries : ℕ) (op : Operation) (m : Medium) → AnswersLook answer entries op m
+    → (reply_of_look unit deed answer).part.point ≡ entries
+look_rests unit deed (Ok observed) entries op m answers = answers.0
+look_rests unit deed (Err (observe_fault.NoMemory point)) entries op m answers = answers.0
+
+found_within : (p : PassView) (bounds : Bounds) (history : List HistoryEntry) (point : ℕ) → p.bounds ≡ bounds → Finds (length history) p history
+    → point ≡ length history → point ≤ bounds.limit
+found_within p bounds history point of finds rests =
+    subst (λ (b : Bounds). point ≤ b.limit) of (let within = finds.lawful.within in omega (arith, within, rests))
+
+-- It isn't above the unit's limit.
+pub change_within : (unit job : ℕ) (deed : Deed) (op : Operation) (changed : Changed) (reply : Reply) (bounds : Bounds) (p q : PassView)
+    → reply ≡ reply_of_change unit deed changed → p.bounds ≡ bounds → Makes changed p job op q → reply.part.point ≤ bounds.limit
+change_within unit job deed op changed reply bounds p q told of made =
+    found_within p bounds made.0 reply.part.point of made.1
+    (ap (λ (r : Reply). r.part.point) told ∙ change_rests unit deed changed (length made.0) p.bounds.limit op (medium_at p.bounds made.0) made.2)
+
+pub look_within : (unit : ℕ) (deed : Deed) (op : Operation) (answer : Result Observed ObserveFault) (reply : Reply) (bounds : Bounds) (p q : PassView)
+    → reply ≡ reply_of_look unit deed answer → p.bounds ≡ bounds → Observes answer p op q → reply.part.point ≤ bounds.limit
+look_within unit deed op answer reply bounds p q told of seen =
+    found_within p bounds seen.0 reply.part.point of seen.1
+    (ap (λ (r : Reply). r.part.point) told ∙ look_rests unit deed answer (length seen.0) op (medium_at p.bounds seen.0) seen.2)

@@ -3,3 +3,4 @@ pub mod Dealing
 pub mod Meeting
 pub mod Parts
 pub mod Replying
+pub mod Recorded

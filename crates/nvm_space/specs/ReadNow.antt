@@ -5,6 +5,7 @@ use Rattle.nvm_record.specs.Status.{successful_completion}
 use Rattle.nvm_record.specs.Step.{Operation}
 use Rattle.nvm_record.specs.declared.status.Status.{Status}
 use Rattle.nvm_geometry.specs.Boundaries.{Crosses, unit_number}
+use Rattle.nvm_geometry.specs.Large.{regions_of}
 use Rattle.nvm_geometry.specs.Limits.{LiesInUnit}
 use Rattle.nvm_geometry.specs.Namespace.{Namespace}
 use Rattle.nvm_store.specs.Answer.{read_by}
@@ -33,19 +34,19 @@ abbrev pub read_answer : Observed → ReadAnswer
 read_answer observed =
     record { point = observed.point; status = read_status observed.answer; payload = read_by observed.answer }
 
--- Among the passes that of the unit looked, and its look was answered so. The others have seen what they had, and each one
+-- Among the passes that of the region looked, and its look was answered so. The others have seen what they had, and each one
 -- that kept a version keeps it.
-pub record LooksIn (unit : ℕ) (op : Operation) (answer : Result Observed LookFault) (old new : List PassState) : Type 0 where
+pub record LooksIn (region : ℕ) (op : Operation) (answer : Result Observed LookFault) (old new : List PassState) : Type 0 where
   pub pass : PassState
-  pub its : IsAt old unit pass
-  pub becomes : BecomesAt unit (λ p q. Looks answer pass.keeps p op q) (views_of old) (views_of new)
+  pub its : IsAt old region pass
+  pub becomes : BecomesAt region (λ p q. Looks answer pass.keeps p op q) (views_of old) (views_of new)
   pub kept : map (λ p. p.keeps) new ≡ map (λ p. p.keeps) old
 
 -- A look at the range can be made, since it lies in the namespace and in one unit, and was made there.
 pub record LooksAtRange (ns : Namespace) (slba blocks : ℕ) (answer : Result Observed LookFault) (old new : PortState) : Type 0 where
   pub in_range : slba + blocks ≤ ns.nsze
   pub one_unit : LiesInUnit ns slba blocks
-  pub looks : LooksIn (unit_number ns slba) (read_operation slba blocks) answer old.passes new.passes
+  pub looks : LooksIn (unit_number (regions_of ns) slba) (read_operation slba blocks) answer old.passes new.passes
 
 -- What `read_now` answers, and the port after it.
 abbrev pub ReadsNow : Namespace → ℕ → ℕ → Result ReadAnswer ReadNow → PortState → PortState → Type 0

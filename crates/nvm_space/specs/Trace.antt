@@ -4,6 +4,7 @@ use Rattle.std.specs.List.{AllByRecursion}
 use Rattle.nvm_record.specs.declared.status.Statuses.{Statuses}
 use Rattle.nvm_record.specs.Deeds.{IsAct, IsLook, success_of}
 use Rattle.nvm_record.specs.Step.{Deed, Operation}
+use Rattle.nvm_geometry.specs.Large.{region_of}
 use Rattle.nvm_geometry.specs.Namespace.{Namespace}
 use Rattle.nvm_store.specs.Answer.{told_by, read_by}
 use Rattle.nvm_plan.specs.declared.job.Job.{Job}
@@ -62,11 +63,11 @@ DoesPart did p q =
     ⊎ (IsLook did.operation.deed × (answer : Result Observed ObserveFault) × Observes answer p did.operation q
     × (did.reply ≡ reply_of_look did.reply.part.unit did.operation.deed answer))
 
--- The parts were done one after the other, each by the pass of its unit.
-abbrev pub DoesParts : List PartDone → List PassView → List PassView → Type 0
-DoesParts [] old new = new ≡ old
-DoesParts (did ∷ rest) old new =
-    (between : List PassView) × BecomesAt did.reply.part.unit (DoesPart did) old between × DoesParts rest between new
+-- The parts were done one after the other, each by the pass of its unit's region.
+abbrev pub DoesParts : (ℕ → ℕ) → List PartDone → List PassView → List PassView → Type 0
+DoesParts region [] old new = new ≡ old
+DoesParts region (did ∷ rest) old new =
+    (between : List PassView) × BecomesAt (region did.reply.part.unit) (DoesPart did) old between × DoesParts region rest between new
 
 -- It is the job's part in its unit.
 abbrev pub IsPartOfJob : Namespace → ℕ → Job → PartDone → Type 0
@@ -80,7 +81,7 @@ listed_of lists parts = if lists then map (λ did. did.reply.part) parts else []
 -- listed where `lists` says so, else none is.
 pub record DoesJob (ns : Namespace) (lists : Bool) (number : ℕ) (job : Job) (old new : List PassView) (done : JobDone) : Type 0 where
   pub parts : List PartDone
-  pub does : DoesParts parts old new
+  pub does : DoesParts (region_of ns) parts old new
   pub each : AllByRecursion (IsPartOfJob ns number job) parts
   pub told : Statuses
   pub read : Option (List ℕ)

@@ -6,6 +6,7 @@ ghost use Rattle.nvm_record.specs.Lists.{IsAt};
 ghost use Rattle.nvm_record.specs.Medium.{zero_medium};
 ghost use Rattle.nvm_record.specs.Step.{Operation, statuses_of};
 ghost use Rattle.nvm_geometry.specs.Boundaries.{unit_number};
+ghost use Rattle.nvm_geometry.specs.Large.{regions_of};
 ghost use Rattle.nvm_geometry.specs.Namespace.{Namespace};
 ghost use Rattle.nvm_store.specs.Call.{Call};
 ghost use Rattle.nvm_store.specs.History.{replay_of};
@@ -74,7 +75,7 @@ pub fn units_end_with_lawful_histories()
         → length histories ≡ length s.units
         → ((k : ℕ) (unit : UnitName) (history : List HistoryEntry) → IsAt s.units k unit → IsAt histories k history
         → EndsWhole k unit ports history)
-        → AreLawfulHistories s.namespace histories }
+        → AreLawfulHistories (regions_of s.namespace) histories }
 {}
 
 /// A call that rests on a point of a unit's history has its answer wherever a shuffle has exactly that point's
@@ -105,7 +106,7 @@ pub fn calls_keep_their_answers()
 /// point isn't before what the pass had seen. The entry of a change that was done is there.
 pub fn answers_rest_on_the_histories_of_any_moment()
     ensures lawful { (s : SpaceName) (states : List UnitState) → IsLaidOut s → AreStatesOf s states
-        → AreLawfulHistories s.namespace (histories_of states) }
+        → AreLawfulHistories (regions_of s.namespace) (histories_of states) }
     ensures own { (s : SpaceName) (states : List UnitState) (k : ℕ) (unit : UnitName) (state : UnitState)
         → AreStatesOf s states → IsAt s.units k unit → IsAt states k state → AreMarked state }
     ensures changed { (s : SpaceName) (states : List UnitState) (k : ℕ) (unit : UnitName) (state : UnitState)

@@ -4,6 +4,7 @@ ghost use Rattle.std.specs.Bool.{OnTrue};
 ghost use Rattle.nvm_record.specs.PayloadRef.{lent_bytes};
 ghost use Rattle.nvm_record.specs.Status.{IsSuccess};
 ghost use Rattle.nvm_record.specs.Step.{Operation};
+ghost use Rattle.nvm_geometry.specs.Large.{region_of, regions_of};
 ghost use Rattle.nvm_geometry.specs.Namespace.{Namespace};
 ghost use Rattle.nvm_store.specs.Answer.{IsRoomFor};
 ghost use Rattle.nvm_store.specs.Place.{IsCovered};
@@ -18,9 +19,9 @@ ghost use Rattle.nvm_unit.specs.Ends.{views_of};
 ghost use Rattle.nvm_unit.specs.Passes.{IsPassOf, IsProperPass};
 ghost use Rattle.nvm_unit.specs.Replies.{Waits};
 ghost use Rattle.nvm_unit.specs.declared.views.PassView.{PassView};
-ghost use Rattle.nvm_space.specs.AtOnce.{IsAtOnce, IsDoneAtOnce};
-ghost use Rattle.nvm_space.specs.Inside.Parts.{AreUnitsOf, DoesPartInto, part_done};
-ghost use Rattle.nvm_space.specs.Ports.{ArePassesOfAll, IsPortOf};
+ghost use Rattle.nvm_space.specs.AtOnce.{IsAtOnce, IsDoneAtOnce, IsOnlyPartAt};
+ghost use Rattle.nvm_space.specs.Inside.Parts.{DoesPartInto, part_done};
+ghost use Rattle.nvm_space.specs.Ports.{IsPortOf};
 ghost use Rattle.nvm_space.specs.Trace.{DoesPart};
 ghost use Rattle.nvm_space.specs.UnderWay.{MayHaveWaited};
 ghost use Rattle.nvm_space.specs.Visits.{BecomesAt};
@@ -28,7 +29,7 @@ ghost use Rattle.nvm_space.specs.Visits.{BecomesAt};
 use crate::port::Port;
 use crate::replies::reply_of_change;
 use crate::space::Space;
-use nvm_geometry::{Geometry, laws};
+use nvm_geometry::laws;
 use nvm_plan::laws::{
     answers_of_the_step_are_replies, each_command_has_a_status, outcomes_are_made_part_by_part,
     outcomes_by_plan, parts_of_jobs,
@@ -42,7 +43,7 @@ use nvm_unit::{Gate, Kept, Pass, Unit};
 use std::alloc::Global;
 
 impl<K: Kept> Space<K> {
-    /// The only part of a job whose data is lent, with its unit. It may be `None`; as it is written it is so where a check refuses the job, where its
+    /// The only part of a job whose data is lent, with its region. It may be `None`; as it is written it is so where a check refuses the job, where its
     /// range lies in several units, for a Dataset Management, and for a Read where the buffer hasn't the length of what it reads. The job's entries have
     /// these fields. The payload is that of its command, or of a pair's second, and `compared` that of a pair's first. It takes no memory.
     #[inline(always)]
@@ -55,20 +56,26 @@ impl<K: Kept> Space<K> {
     ) -> Option<(u16, LentPart<'a>)>
         requires { IsWholeBody self.now.namespace.block_size (body_lent fields (lent_bytes payload) (lent_bytes compared)) }
         ensures part { IfSome result (λ only. (job : Asked) → job.body ≡ body_lent fields (lent_bytes payload.entry) (lent_bytes compared.entry)
-            → IsOnlyPart self.now.namespace job only.0 (part_operation_of only.1)) }
-        ensures covered { IfSome result (λ only. (place : UnitPlace) → IsUnitPlace self.now.namespace only.0 place
+            → IsOnlyPartAt self.now.namespace job only.0 (part_operation_of only.1)) }
+        ensures covered { IfSome result (λ only. (place : UnitPlace) → IsUnitPlace (regions_of self.now.namespace) only.0 place
             → IsCovered place (part_operation_of only.1)) }
         ensures room { IfSome result (λ only. IsRoomFor (part_operation_of only.1) self.now.namespace.block_size buffer.now) }
     {
-        let (unit, part) = only_part(&self.geometry, fields, payload, compared)?;
+        laws::regions_have_whole_units();
+        laws::each_unit_has_one_place();
+        laws::units_number_the_namespace();
+
+        // For the proof alone: how large the namespace can be.
+        let _nsze = self.geometry.nsze();
+        let part = only_part(&self.geometry, fields, payload, compared)?;
         if !has_room(part, self.geometry.block_size(), buffer) {
             return None;
         }
-        Some((unit, part))
+        Some((self.regions.region_of(part.first()), part))
     }
 
     /// Does the only part of a job, with which the job is done: it answers what is reported of its commands, and the data of a Read with 0/00 is in
-    /// the buffer. Without a Read's 0/00 the buffer is as it was. It is `None` where the unit wasn't to be had: then the port may be polled with that
+    /// the buffer. Without a Read's 0/00 the buffer is as it was. It is `None` where the region wasn't to be had: then the port may be polled with that
     /// part again. It takes no memory but that of a change, and waits for nothing.
     #[inline(always)]
     pub fn poll_only_part<G: Gate>(
@@ -76,77 +83,43 @@ impl<K: Kept> Space<K> {
         alloc: Global,
         port: &mut Port<K>,
         number: u32,
-        unit: u16,
+        region: u16,
         part: LentPart<'_>,
         buffer: &mut [u8],
         gate: &G,
     ) -> Option<Statuses>
         requires of { IsPortOf self.now port.old }
-        requires unlisted { self.now.lists ≡ false }
-        requires only { (job : Asked) × IsOnlyPart self.now.namespace job unit (part_operation_of part) }
-        requires covered { (place : UnitPlace) → IsUnitPlace self.now.namespace unit place → IsCovered place (part_operation_of part) }
+        requires only { (job : Asked) × IsOnlyPartAt self.now.namespace job region (part_operation_of part) }
+        requires covered { (place : UnitPlace) → IsUnitPlace (regions_of self.now.namespace) region place → IsCovered place (part_operation_of part) }
         requires room { IsRoomFor (part_operation_of part) self.now.namespace.block_size buffer.old }
         ensures of { IsPortOf self.now port.new }
         ensures number { port.new.number ≡ port.old.number }
-        ensures goes { (job : Asked) (start : List PassView) → IsOnlyPart self.now.namespace job unit (part_operation_of part.entry)
-            → MayHaveWaited unit start (views_of port.old.passes)
-            → IsAtOnce self.now.namespace number job unit start (views_of port.new.passes) buffer.old buffer.new result }
+        ensures goes { (job : Asked) (start : List PassView) → IsOnlyPartAt self.now.namespace job region (part_operation_of part.entry)
+            → MayHaveWaited region start (views_of port.old.passes)
+            → IsAtOnce self.now.namespace number job region start (views_of port.new.passes) buffer.old buffer.new result }
     {
-        poll_only_part(
+        an_only_part_is_the_outcome();
+        waiting_is_no_step();
+        laws::units_number_the_namespace();
+        laws::regions_have_whole_units();
+
+        // For the proof alone: how large the namespace can be.
+        let _nsze = self.geometry.nsze();
+        let place = usize::from(region);
+        let statuses = poll_part_into(
             alloc,
-            &self.geometry,
-            &self.units,
-            &mut port.passes,
+            &self.units[place],
+            &mut port.passes[place],
             number,
-            unit,
             part,
             buffer,
             gate,
-        )
-    }
-}
+        )?;
 
-/// Does the only part of a job, in this unit, unless the unit is held.
-#[inline(always)]
-fn poll_only_part<G: Gate, K: Kept>(
-    alloc: Global,
-    geometry: &Geometry,
-    units: &[Unit<K>],
-    passes: &mut Vec<Pass<K>>,
-    number: u32,
-    unit: u16,
-    part: LentPart<'_>,
-    buffer: &mut [u8],
-    gate: &G,
-) -> Option<Statuses>
-    requires units { AreUnitsOf geometry.now false units.now }
-    requires passes { (n : ℕ) × ArePassesOfAll units.now n passes.old.items }
-    requires only { (job : Asked) × IsOnlyPart geometry.now job unit (part_operation_of part) }
-    requires covered { (place : UnitPlace) → IsUnitPlace geometry.now unit place → IsCovered place (part_operation_of part) }
-    requires room { IsRoomFor (part_operation_of part) geometry.now.block_size buffer.old }
-    ensures passes { (n : ℕ) → ArePassesOfAll units.now n passes.old.items
-        → ArePassesOfAll units.now n passes.new.items }
-    ensures goes { (job : Asked) (start : List PassView) → IsOnlyPart geometry.now job unit (part_operation_of part.entry)
-        → MayHaveWaited unit start (views_of passes.old.items)
-        → IsAtOnce geometry.now number job unit start (views_of passes.new.items) buffer.old buffer.new result }
-{
-    an_only_part_is_the_outcome();
-    parts_of_jobs();
-    waiting_is_no_step();
-    let _units = geometry.units();
-    let place = usize::from(unit);
-    let statuses = poll_part_into(
-        alloc,
-        &units[place],
-        &mut passes[place],
-        number,
-        unit,
-        part,
-        buffer,
-        gate,
-    )?;
-    let _ = statuses.is_success();
-    Some(statuses)
+        // For the proof alone: whether that is a success, as the outcome depends on it.
+        let _ = statuses.is_success();
+        Some(statuses)
+    }
 }
 
 /// Whether the buffer has as many bytes as the part reads, if it is of a Read.
@@ -169,7 +142,6 @@ fn poll_part_into<G: Gate, K: Kept>(
     unit: &Unit<K>,
     pass: &mut Pass<K>,
     number: u32,
-    place: u16,
     part: LentPart<'_>,
     buffer: &mut [u8],
     gate: &G,
@@ -181,13 +153,13 @@ fn poll_part_into<G: Gate, K: Kept>(
     ensures number { pass.new.view.number ≡ pass.old.view.number }
     ensures proper { IsProperPass pass.new.view }
     ensures does { MatchOption result (Waits pass.old.view pass.new.view × (buffer.new ≡ buffer.old))
-        (λ statuses. DoesPartInto number place (part_operation_of part.entry) statuses buffer.old buffer.new pass.old.view pass.new.view) }
+        (λ statuses. (place : ℕ) → DoesPartInto number place (part_operation_of part.entry) statuses buffer.old buffer.new pass.old.view pass.new.view) }
 {
     acts_and_looks();
     match part {
         LentPart::Act(act) => {
             let changed = unit.poll_change(alloc, pass, number, act, gate)?;
-            Some(reply_of_change(place, act, changed).statuses)
+            Some(reply_of_change(act, changed).statuses)
         }
         LentPart::Look(look) => {
             let observed = unit.poll_observe_into(pass, look, buffer, gate)?;
@@ -199,7 +171,7 @@ fn poll_part_into<G: Gate, K: Kept>(
 /// Where the only part of a job was done, what was reported about it is reported about the job.
 fn an_only_part_is_the_outcome()
     ensures { (ns : Namespace) (number : ℕ) (job : Asked) (unit : ℕ) (part : Operation) (r : Reply) (ok : Bool) (start now : List PassView) (old : List ℕ)
-        → IsOnlyPart ns job unit part → r.part.unit ≡ unit → BecomesAt unit (DoesPart (part_done number part r)) start now
+        → IsOnlyPart ns job unit part → r.part.unit ≡ unit → BecomesAt (region_of ns unit) (DoesPart (part_done number part r)) start now
         → IsTrue ok ↔ IsSuccess r.statuses → IsDoneAtOnce ns number job start now old (unwrap_or r.payload old) r.statuses }
 {
     outcomes_by_plan();

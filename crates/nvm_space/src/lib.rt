@@ -1,8 +1,8 @@
-//! A namespace that many threads share: its atomic units, and the ports through which jobs are done.
+//! A namespace that many threads share: its regions, each of whole atomic units, and the ports through which jobs are done.
 //!
 //! [`Space::new`] gives a space with its ports, which threads take with them. A port holds a pass of each
-//! unit, and what its passes have seen grows at each call. [`Space::close`] gives the histories of all units.
-//! [`Space::unrecorded`] gives one that keeps the number of each unit's changes alone, in which [`Space::poll_only_part`] does at
+//! region, and what its passes have seen grows at each call. [`Space::close`] gives the histories of all regions.
+//! [`Space::unrecorded`] gives one of any size that keeps the number of each region's changes alone, in which [`Space::poll_only_part`] does at
 //! once what lies in one unit.
 #![tactic(auto)]
 
@@ -23,6 +23,6 @@ mod under_way;
 pub use job_done::JobDone;
 pub use port::Port;
 pub use read_now::{ReadAnswer, ReadNow};
-pub use space::{MOST_PORTS, Space};
+pub use space::{MOST_PORTS, Recorded, Space};
 pub use space_fault::SpaceFault;
 pub use under_way::{JobUnderWay, Progress};

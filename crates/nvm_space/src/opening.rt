@@ -1,6 +1,9 @@
 //! How a space begins: its units are made one after the other, and each unit's passes are handed out to the
 //! ports.
-ghost use Rattle.std.specs.Prelude.{◌≡◌, ◌≤◌, ◌^◌, [], IfOk, IfErr, OnOk, length};
+ghost use Rattle.std.specs.Prelude.{◌≡◌, ◌+◌, ◌<◌, ◌≤◌, ◌^◌, [], IfOk, IfErr, OnOk, length};
+ghost use Rattle.nvm_geometry.specs.Boundaries.{units_of};
+ghost use Rattle.nvm_geometry.specs.Large.{regions_of};
+ghost use Rattle.nvm_plan.specs.UnitPlace.{IsUnitPlace};
 ghost use Rattle.nvm_space.specs.Inside.Dealing.{space_of, AreDealt, HaveOneMore};
 ghost use Rattle.nvm_space.specs.Ports.{new_ports};
 ghost use Rattle.nvm_space.specs.Spaces as spec;
@@ -8,10 +11,9 @@ ghost use Rattle.nvm_space.specs.Spaces.{IsLaidOut, IsPortCount, IsSpaceFault};
 
 use crate::port::Port;
 use crate::space_fault::SpaceFault;
-use nvm_geometry::Geometry;
-use nvm_plan::unit_place;
+use nvm_geometry::{LargeGeometry, Regions};
 use nvm_record::NoMemory;
-use nvm_store::Limit;
+use nvm_store::{Limit, Place};
 use nvm_unit::laws::new_passes_are_all;
 use nvm_unit::{Kept, MOST_ENTRIES, Pass, Unit};
 use std::alloc::Global;
@@ -19,25 +21,25 @@ use std::alloc::Global;
 /// The units of a new space, and its ports.
 pub(crate) fn opened<K: Kept>(
     alloc: Global,
-    geometry: Geometry,
+    geometry: &LargeGeometry,
+    regions: Regions,
     ports: u16,
     limit: &Option<Limit>,
     versions: bool,
 ) -> Result<(Vec<Unit<K>>, Vec<Port<K>>), SpaceFault>
-    requires { IsPortCount ports }
+    requires ports { IsPortCount ports }
+    requires regions { regions ≡ regions_of geometry.now }
     ensures refused { IfErr result (IsSpaceFault ports) }
-    ensures units { IfOk result (λ u. IsLaidOut (space_of geometry ports limit.now versions u.0.items)) }
-    ensures ports { IfOk result (λ u. u.1.items ≡ new_ports (space_of geometry ports limit.now versions u.0.items)) }
+    ensures units { IfOk result (λ u. IsLaidOut (space_of geometry.now ports limit.now versions u.0.items)) }
+    ensures ports { IfOk result (λ u. u.1.items ≡ new_ports (space_of geometry.now ports limit.now versions u.0.items)) }
 {
     new_passes_are_all();
-    // For the proof alone: how many LBAs there can be.
-    let _nsze = geometry.nsze();
     let most = most_entries(limit);
-    let count = geometry.units();
+    let count = regions.count();
     let mut dealt = bare_ports(alloc, ports, count)?;
     let mut units = Vec::with_capacity(alloc, usize::from(count))?;
     for number in 0..count {
-        let place = unit_place(&geometry, number);
+        let place = region_place(regions, number);
         let Ok((unit, passes)) = Unit::with_limit(alloc, number, place, ports, most, versions)
         else {
             return Err(SpaceFault::NoMemory);
@@ -46,6 +48,21 @@ pub(crate) fn opened<K: Kept>(
         units.push(unit)?;
     }
     Ok((units, dealt))
+}
+
+/// Where a region lies.
+fn region_place(regions: Regions, region: u16) -> Place
+    requires { region < units_of regions }
+    ensures place { IsUnitPlace regions region result }
+    ensures some { 0 < result.blocks }
+    ensures low { result.first + result.blocks ≤ 2 ^ 40 }
+{
+    let (first, blocks) = regions.range(region);
+    Place {
+        first,
+        blocks,
+        size: regions.block_size(),
+    }
 }
 
 /// How many entries a history may have.

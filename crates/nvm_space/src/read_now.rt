@@ -61,8 +61,8 @@ impl ReadAnswer {
 }
 
 impl<K: Kept> Space<K> {
-    /// Answers a Read from the version that the port keeps of its unit, without taking the unit: with one load it finds how
-    /// many entries the unit's history has, and the answer is only given if the port has seen them all. It doesn't matter
+    /// Answers a Read from the version that the port keeps of its region, without taking the region: with one load it finds how
+    /// many entries the region's history has, and the answer is only given if the port has seen them all. It doesn't matter
     /// whether another port holds the unit. The port keeps what it kept. It waits for nothing.
     pub fn read_now(
         &self,
@@ -79,13 +79,16 @@ impl<K: Kept> Space<K> {
         ensures read { ReadsNow self.now.namespace slba blocks result port.old port.new }
     {
         laws::sharing_is_one_number();
+        laws::regions_have_whole_units();
+        // For the proof alone: it is a large geometry.
+        let _nsze = self.geometry.nsze();
         if !self.geometry.in_range(slba, blocks) {
             return Err(ReadNow::OutOfRange);
         }
-        let Some(unit) = self.geometry.unit_of_range(slba, blocks) else {
+        if !self.geometry.lies_in_unit(slba, blocks) {
             return Err(ReadNow::Crosses);
-        };
-        let place = usize::from(unit);
+        }
+        let place = usize::from(self.regions.region_of(slba));
         let look = Look::Read {
             first: slba,
             blocks,

@@ -1,5 +1,5 @@
 //! What a unit reports about a job's part.
-ghost use Rattle.std.specs.Prelude.{◌≡◌, ◌++◌, OnOk};
+ghost use Rattle.std.specs.Prelude.{◌≡◌, ◌++◌, ℕ, OnOk};
 ghost use Rattle.nvm_record.specs.Deeds.{success_of};
 ghost use Rattle.nvm_store.specs.ActRef.{lent_operation_of};
 ghost use Rattle.nvm_store.specs.Look.{look_operation_of};
@@ -15,7 +15,6 @@ use nvm_unit::{Changed, ObserveFault, Observed};
 /// The part, what would be reported to its host about it alone, and the data that a Read's part read.
 #[derive(Debug, Drop)]
 pub struct PartReply {
-    pub unit: u16,
     pub point: u64,
     pub result: PartResult,
     pub statuses: Statuses,
@@ -26,8 +25,8 @@ ghost use Rattle.nvm_space.specs.Inside.Parts.{IsGathered, reply_told};
 
 /// What is reported about a change.
 #[inline(always)]
-pub(crate) fn reply_of_change(unit: u16, act: ActRef<'_>, changed: Changed) -> PartReply
-    ensures { reply_told result ≡ spec.reply_of_change unit (lent_operation_of act.entry).deed changed }
+pub(crate) fn reply_of_change(act: ActRef<'_>, changed: Changed) -> PartReply
+    ensures { (unit : ℕ) → reply_told unit result ≡ spec.reply_of_change unit (lent_operation_of act.entry).deed changed }
 {
     let (point, result, statuses) = match changed {
         Changed::Done { point } => (point, PartResult::Done, success(act)),
@@ -36,7 +35,6 @@ pub(crate) fn reply_of_change(unit: u16, act: ActRef<'_>, changed: Changed) -> P
         Changed::Full { point } => (point, PartResult::Full, stop(act)),
     };
     PartReply {
-        unit,
         point,
         result,
         statuses,
@@ -46,12 +44,8 @@ pub(crate) fn reply_of_change(unit: u16, act: ActRef<'_>, changed: Changed) -> P
 
 /// What is reported about a look.
 #[inline(always)]
-pub(crate) fn reply_of_look(
-    unit: u16,
-    look: Look<'_>,
-    answer: Result<Observed, ObserveFault>,
-) -> PartReply
-    ensures { reply_told result ≡ spec.reply_of_look unit (look_operation_of look.entry).deed answer }
+pub(crate) fn reply_of_look(look: Look<'_>, answer: Result<Observed, ObserveFault>) -> PartReply
+    ensures { (unit : ℕ) → reply_told unit result ≡ spec.reply_of_look unit (look_operation_of look.entry).deed answer }
 {
     let _ = look;
     match answer {
@@ -64,7 +58,6 @@ pub(crate) fn reply_of_look(
                 Answer::Status(status) => (Statuses::One(status), None),
             };
             PartReply {
-                unit,
                 point,
                 result: PartResult::Looked,
                 statuses,
@@ -72,7 +65,6 @@ pub(crate) fn reply_of_look(
             }
         }
         Err(ObserveFault::NoMemory { point }) => PartReply {
-            unit,
             point,
             result: PartResult::NoMemory,
             statuses: Statuses::One(Status::INTERNAL_ERROR),
@@ -109,10 +101,9 @@ fn stop(act: ActRef<'_>) -> Statuses
 /// Adds what the part read to the bytes that the parts before it read, and says how the part ended. Where memory for that is
 /// refused, the part is one that found no memory.
 pub(crate) fn gathered(reply: PartReply, bytes: &mut Vec<u8>) -> (PartResult, Statuses)
-    ensures { IsGathered reply bytes.old.items bytes.new.items (part_ended reply.unit reply.point result.0) result.1 }
+    ensures { (unit : ℕ) → IsGathered unit reply bytes.old.items bytes.new.items (part_ended unit reply.point result.0) result.1 }
 {
     let PartReply {
-        unit: _,
         point: _,
         result,
         statuses,

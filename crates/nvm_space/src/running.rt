@@ -1,7 +1,9 @@
-//! How a port does a job: a step of its pass in each unit in which the job has a part, one after the other, up to
+//! How a port does a job: a step of its pass of the region for each unit in which the job has a part, one after the other, up to
 //! the first that doesn't succeed.
-ghost use Rattle.std.specs.Prelude.{◌≡◌, ◌≤◌, ℕ, List, MatchOption};
-ghost use Rattle.nvm_geometry.specs.Namespace.{Namespace};
+ghost use Rattle.std.specs.Prelude.{◌≡◌, ◌≤◌, ℕ, List, MatchOption, is_some, true};
+ghost use Rattle.nvm_geometry.specs.Boundaries.{units_of};
+ghost use Rattle.nvm_geometry.specs.Faults.{most_units};
+ghost use Rattle.nvm_geometry.specs.Large.{regions_of};
 ghost use Rattle.nvm_plan.specs.Fits.{FitsNamespace};
 ghost use Rattle.nvm_plan.specs.LentPart.{part_operation_of};
 ghost use Rattle.nvm_store.specs.Place.{IsCovered};
@@ -10,6 +12,7 @@ ghost use Rattle.nvm_unit.specs.Passes.{IsPassOf, IsProperPass};
 ghost use Rattle.nvm_unit.specs.Replies.{Waits};
 ghost use Rattle.nvm_unit.specs.declared.views.PassView.{PassView};
 ghost use Rattle.nvm_space.specs.Inside.Parts.{AreUnitsOf, part_done, reply_told};
+ghost use Rattle.nvm_space.specs.Inside.Recorded.{AreRecordedOf};
 ghost use Rattle.nvm_space.specs.Ports.{ArePassesOfAll, IsPortOf};
 ghost use Rattle.nvm_space.specs.Progress.{IsProgress};
 ghost use Rattle.nvm_space.specs.Trace.{DoesJob, DoesPart};
@@ -18,9 +21,9 @@ ghost use Rattle.nvm_space.specs.UnderWay.{IsUnderWay};
 use crate::job_done::JobDone;
 use crate::port::Port;
 use crate::replies::{PartReply, reply_of_change, reply_of_look};
-use crate::space::Space;
+use crate::space::{Recorded, Space};
 use crate::under_way::{JobUnderWay, Progress, begin};
-use nvm_geometry::Geometry;
+use nvm_geometry::{LargeGeometry, Regions, laws};
 use nvm_plan::laws::parts_of_jobs;
 use nvm_plan::{Job, LentPart};
 use nvm_store::laws::acts_and_looks;
@@ -53,13 +56,14 @@ impl<K: Kept> Space<K> {
         ensures does { DoesJob self.now.namespace self.now.lists number job.now (views_of port.old.passes) (views_of port.new.passes)
             result }
     {
-        let lists = self.limit().is_some();
+        let recorded = self.recorded();
         do_job(
             rt,
             alloc,
             &self.geometry,
+            self.regions,
             &self.units,
-            lists,
+            recorded,
             &mut port.passes,
             number,
             job,
@@ -74,7 +78,7 @@ impl<K: Kept> Space<K> {
     pub fn begin_job(&self, alloc: Global, number: u32, job: &Job) -> Progress
         ensures { (views : List PassView) → IsProgress self.now.namespace self.now.lists number job.now views views result }
     {
-        begin(alloc, &self.geometry, self.limit().is_some(), number, job)
+        begin(alloc, &self.geometry, self.recorded(), number, job)
     }
 
     /// Resumes a job that was begun, part by part, up to the first whose unit it doesn't get, since another port has it or
@@ -100,10 +104,11 @@ impl<K: Kept> Space<K> {
             → IsUnderWay self.now.namespace self.now.lists job.now under_way start (views_of port.old.passes)
             → IsProgress self.now.namespace self.now.lists under_way.number job.now start (views_of port.new.passes) result }
     {
-        let lists = self.limit().is_some();
+        let lists = self.recorded().is_some();
         poll_job(
             alloc,
             &self.geometry,
+            self.regions,
             &self.units,
             lists,
             &mut port.passes,
@@ -118,40 +123,49 @@ impl<K: Kept> Space<K> {
 fn do_job<R: Wait, G: Gate, K: Kept>(
     rt: &R,
     alloc: Global,
-    geometry: &Geometry,
+    geometry: &LargeGeometry,
+    regions: Regions,
     units: &[Unit<K>],
-    lists: bool,
+    recorded: Option<Recorded>,
     passes: &mut Vec<Pass<K>>,
     number: u32,
     job: &Job,
     gate: &G,
 ) -> JobDone
-    requires units { AreUnitsOf geometry.now lists units.now }
+    requires units { AreUnitsOf geometry.now (is_some recorded) units.now }
+    requires regions { regions ≡ regions_of geometry.now }
+    requires recorded { AreRecordedOf geometry.now recorded }
     requires passes { (n : ℕ) × ArePassesOfAll units.now n passes.old.items }
     requires fits { FitsNamespace geometry.now job.now }
     ensures passes { (n : ℕ) → ArePassesOfAll units.now n passes.old.items
         → ArePassesOfAll units.now n passes.new.items }
-    ensures does { DoesJob geometry.now lists number job.now (views_of passes.old.items) (views_of passes.new.items) result }
+    ensures does { DoesJob geometry.now (is_some recorded) number job.now (views_of passes.old.items) (views_of passes.new.items) result }
 {
     parts_of_jobs();
-    let mut progress = begin(alloc, geometry, lists, number, job);
+    laws::regions_have_whole_units();
+    laws::few_units_are_regions();
+
+    // For the proof alone: the numbers are those of a namespace.
+    let _nsze = geometry.nsze();
+    let lists = recorded.is_some();
+    let mut progress = begin(alloc, geometry, recorded, number, job);
     loop {
         match progress {
             Progress::Done(done) => return done,
             Progress::Pending(under_way) => {
-                let (unit, part) = under_way.next_part(geometry, job);
-                let place = usize::from(unit);
+                let part = under_way.next_part(geometry, job);
+                let region = regions.region_of(under_way.lba());
+                let place = usize::from(region);
                 let reply = do_part(
                     rt,
                     alloc,
                     &units[place],
                     &mut passes[place],
                     number,
-                    unit,
                     part,
                     gate,
                 );
-                progress = under_way.replied(geometry, lists, job, reply);
+                progress = under_way.replied(geometry, lists, region, job, reply);
             }
         }
     }
@@ -160,7 +174,8 @@ fn do_job<R: Wait, G: Gate, K: Kept>(
 /// Goes on with a job, part by part, up to the first whose unit is held.
 fn poll_job<G: Gate, K: Kept>(
     alloc: Global,
-    geometry: &Geometry,
+    geometry: &LargeGeometry,
+    regions: Regions,
     units: &[Unit<K>],
     lists: bool,
     passes: &mut Vec<Pass<K>>,
@@ -169,6 +184,8 @@ fn poll_job<G: Gate, K: Kept>(
     gate: &G,
 ) -> Progress
     requires units { AreUnitsOf geometry.now lists units.now }
+    requires regions { regions ≡ regions_of geometry.now }
+    requires few { lists ≡ true → units_of geometry.now ≤ most_units }
     requires passes { (n : ℕ) × ArePassesOfAll units.now n passes.old.items }
     requires fits { FitsNamespace geometry.now job.now }
     requires under_way { (start : List PassView)
@@ -181,27 +198,32 @@ fn poll_job<G: Gate, K: Kept>(
 {
     parts_of_jobs();
     waiting_is_no_step();
+    laws::regions_have_whole_units();
+    laws::few_units_are_regions();
+
+    // For the proof alone: the numbers are those of a namespace.
+    let _nsze = geometry.nsze();
     let number = under_way.number;
     let mut progress = Progress::Pending(under_way);
     loop {
         match progress {
             Progress::Done(done) => return Progress::Done(done),
             Progress::Pending(under_way) => {
-                let (unit, part) = under_way.next_part(geometry, job);
-                let place = usize::from(unit);
+                let part = under_way.next_part(geometry, job);
+                let region = regions.region_of(under_way.lba());
+                let place = usize::from(region);
                 let polled = poll_part(
                     alloc,
                     &units[place],
                     &mut passes[place],
                     number,
-                    unit,
                     part,
                     gate,
                 );
                 let Some(reply) = polled else {
                     return Progress::Pending(under_way);
                 };
-                progress = under_way.replied(geometry, lists, job, reply);
+                progress = under_way.replied(geometry, lists, region, job, reply);
             }
         }
     }
@@ -214,7 +236,6 @@ fn do_part<R: Wait, G: Gate, K: Kept>(
     unit: &Unit<K>,
     pass: &mut Pass<K>,
     number: u32,
-    place: u16,
     part: LentPart<'_>,
     gate: &G,
 ) -> PartReply
@@ -223,17 +244,16 @@ fn do_part<R: Wait, G: Gate, K: Kept>(
     ensures of { IsPassOf unit.now pass.new }
     ensures number { pass.new.view.number ≡ pass.old.view.number }
     ensures proper { IsProperPass pass.new.view }
-    ensures unit { result.unit ≡ place }
     ensures within { result.point ≤ unit.now.bounds.limit }
-    ensures does { DoesPart (part_done number (part_operation_of part.entry) (reply_told result)) pass.old.view
+    ensures does { (place : ℕ) → DoesPart (part_done number (part_operation_of part.entry) (reply_told place result)) pass.old.view
         pass.new.view }
 {
     acts_and_looks();
     match part {
         LentPart::Act(act) => {
-            reply_of_change(place, act, unit.change(rt, alloc, pass, number, act, gate))
+            reply_of_change(act, unit.change(rt, alloc, pass, number, act, gate))
         }
-        LentPart::Look(look) => reply_of_look(place, look, unit.observe(rt, alloc, pass, look)),
+        LentPart::Look(look) => reply_of_look(look, unit.observe(rt, alloc, pass, look)),
     }
 }
 
@@ -244,7 +264,6 @@ fn poll_part<G: Gate, K: Kept>(
     unit: &Unit<K>,
     pass: &mut Pass<K>,
     number: u32,
-    place: u16,
     part: LentPart<'_>,
     gate: &G,
 ) -> Option<PartReply>
@@ -253,18 +272,18 @@ fn poll_part<G: Gate, K: Kept>(
     ensures of { IsPassOf unit.now pass.new }
     ensures number { pass.new.view.number ≡ pass.old.view.number }
     ensures proper { IsProperPass pass.new.view }
-    ensures does { MatchOption result (Waits pass.old.view pass.new.view) (λ reply. (reply.unit ≡ place)
-        × (reply.point ≤ unit.now.bounds.limit) × DoesPart (part_done number (part_operation_of part.entry) (reply_told reply)) pass.old.view pass.new.view) }
+    ensures does { MatchOption result (Waits pass.old.view pass.new.view) (λ reply. (reply.point ≤ unit.now.bounds.limit)
+        × ((place : ℕ) → DoesPart (part_done number (part_operation_of part.entry) (reply_told place reply)) pass.old.view pass.new.view)) }
 {
     acts_and_looks();
     match part {
         LentPart::Act(act) => {
             let changed = unit.poll_change(alloc, pass, number, act, gate)?;
-            Some(reply_of_change(place, act, changed))
+            Some(reply_of_change(act, changed))
         }
         LentPart::Look(look) => {
             let answer = unit.poll_observe(alloc, pass, look, gate)?;
-            Some(reply_of_look(place, look, answer))
+            Some(reply_of_look(look, answer))
         }
     }
 }

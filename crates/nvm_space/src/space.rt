@@ -1,7 +1,9 @@
-ghost use Rattle.std.specs.Prelude.{◌≡◌, ◌<◌, ℕ, IfOk, IfErr, IfSome, is_some, length, true};
+ghost use Rattle.std.specs.Prelude.{◌≡◌, ◌<◌, ◌≤◌, ◌^◌, ℕ, IfOk, IfErr, IfSome, is_some, length, true, false};
 ghost use Rattle.nvm_record.specs.Lists.{IsAt};
 ghost use Rattle.nvm_store.specs.HistoryEntry.{HistoryEntry};
 ghost use Rattle.nvm_geometry.specs.Boundaries.{units_of};
+ghost use Rattle.nvm_geometry.specs.Faults.{most_units};
+ghost use Rattle.nvm_geometry.specs.Large.{regions_of};
 ghost use Rattle.nvm_store.specs.Limit.{IsLimit};
 ghost use Rattle.nvm_unit.specs.declared.views.PassView.{PassView};
 ghost use Rattle.nvm_unit.specs.Ends.{views_of};
@@ -9,6 +11,7 @@ ghost use Rattle.nvm_unit.specs.Passes.{UnitName};
 ghost use Rattle.nvm_unit.specs.Replies.{IsBroughtUp};
 ghost use Rattle.nvm_space.specs.Visits.{BecomesAt, MeetInEach};
 ghost use Rattle.nvm_space.specs.Closing.{EndsWhole};
+ghost use Rattle.nvm_space.specs.Inside.Recorded.{AreRecordedOf, limit_of};
 ghost use Rattle.nvm_space.specs.Ports.{AreAllPortsOf, IsPortOf, new_ports};
 ghost use Rattle.nvm_space.specs.Spaces.{IsLaidOut, IsPortCount, IsSpaceFault, most_entries};
 
@@ -17,7 +20,7 @@ use crate::meeting::meet_in_each;
 use crate::opening::opened;
 use crate::port::Port;
 use crate::space_fault::SpaceFault;
-use nvm_geometry::Geometry;
+use nvm_geometry::{Geometry, LargeGeometry, Regions};
 use nvm_record::NoMemory;
 use nvm_store::{History, Limit};
 use nvm_unit::{Count, Kept, Unit};
@@ -28,40 +31,52 @@ use std::sync::Wait;
 /// The most ports of a space.
 pub const MOST_PORTS: u16 = 64;
 
-/// A namespace as the atomic units that its boundaries make, which many threads read and change by their ports.
+/// A namespace of up to 2^40 blocks, as at most 4,096 regions of whole atomic units, which many threads read and change by their ports. Where it
+/// has no more units than that, each of them is a region.
 ///
-/// It keeps the history of each unit, or only counts its entries (`Space<Count>`).
+/// It keeps the history of each region, or only counts its entries (`Space<Count>`). A part of a job, which lies in one unit, is one step of the
+/// region's history.
 ///
-/// Contracts see the namespace, the number of ports, the limit of each unit's history (2^62 where it has none), whether jobs list
-/// their parts, whether it was opened with versions, and the units.
+/// Contracts see the namespace, the number of ports, the limit of each region's history (2^62 where it has none), whether jobs list
+/// their parts, whether it was opened with versions, and the regions.
 #[derive(Drop)]
 pub struct Space<K: Kept = History> {
-    pub(crate) geometry: Geometry,
+    pub(crate) geometry: LargeGeometry,
+    pub(crate) regions: Regions,
     pub(crate) ports: u16,
-    /// The most entries of a unit's history. `None` only where no histories are kept.
-    pub(crate) limit: Option<Limit>,
+    /// What a record says of it. `None` only where no histories are kept.
+    pub(crate) recorded: Option<Recorded>,
     /// Whether the ports' passes keep versions.
     pub(crate) versions: bool,
-    /// Unit k is at place k.
+    /// Region k is at place k.
     pub(crate) units: Vec<Unit<K>>,
 }
 
+/// The geometry of a namespace that is recorded, and the most entries of a unit's history.
+#[derive(Clone, Copy, Debug)]
+pub struct Recorded {
+    pub geometry: Geometry,
+    pub limit: Limit,
+}
+
 impl<K: Kept> Model for Space<K> {
-    ghost use Rattle.std.specs.Prelude.{is_some};
+    ghost use Rattle.std.specs.Prelude.{◌≡◌, is_some};
+    ghost use Rattle.nvm_geometry.specs.Large.{regions_of};
+    ghost use Rattle.nvm_space.specs.Inside.Recorded.{AreRecordedOf, limit_of};
     ghost use Rattle.nvm_space.specs.Spaces.{SpaceName, IsLaidOut, most_entries};
 
     ghost Value = { SpaceName };
 
-    ghost view = { λ s. record { namespace = s.geometry; ports = s.ports; limit = most_entries s.limit; lists = is_some s.limit; versions = s.versions; units = s.units.items } };
+    ghost view = { λ s. record { namespace = s.geometry; ports = s.ports; limit = most_entries (limit_of s.recorded); lists = is_some s.recorded; versions = s.versions; units = s.units.items } };
 
     ghost invariant = { λ s. IsLaidOut (record {
       namespace = s.geometry;
       ports = s.ports;
-      limit = most_entries s.limit;
-      lists = is_some s.limit;
+      limit = most_entries (limit_of s.recorded);
+      lists = is_some s.recorded;
       versions = s.versions;
       units = s.units.items;
-    }) };
+    }) × (s.regions ≡ regions_of s.geometry) × AreRecordedOf s.geometry s.recorded };
 }
 
 impl Space {
@@ -111,35 +126,61 @@ impl Space {
         ensures all { IfOk result (λ s. AreAllPortsOf s.0 s.1.items) }
         ensures versions { IfOk result (λ s. s.0.versions ≡ versions) }
     {
-        Space::made(alloc, geometry, ports, Some(limit), versions)
+        // For the proof alone: it has no more units than there can be regions.
+        let _units = geometry.units();
+        let recorded = Recorded { geometry, limit };
+        Space::made(alloc, geometry.large(), ports, Some(recorded), versions)
     }
 }
 
 impl Space<Count> {
     /// What [`open`](Space::open) does, but the space keeps no histories. Each unit still has one, of which contracts speak; it takes no
-    /// memory, and no call gives it. [`close`](Space::close) gives the number of its entries.
-    ///
-    /// With a limit the points of parts are those that a record can hold, and a job that is done lists its parts. Without, each unit's
-    /// history may have 2^62 entries, and no parts are listed.
-    pub fn unrecorded(
+    /// memory, and no call gives it. [`close`](Space::close) gives the number of its entries. The points of parts are those that a record can
+    /// hold, and a job that is done lists its parts.
+    pub fn counted(
         alloc: Global,
         geometry: Geometry,
         ports: u16,
-        limit: Option<Limit>,
+        limit: Limit,
         versions: bool,
     ) -> Result<(Space<Count>, Vec<Port<Count>>), SpaceFault>
         ensures taken { IfOk result (λ s. IsPortCount ports) }
         ensures refused { IfErr result (IsSpaceFault ports) }
         ensures namespace { IfOk result (λ s. s.0.namespace ≡ geometry) }
-        ensures limit { IfOk result (λ s. s.0.limit ≡ most_entries limit) }
-        ensures lists { IfOk result (λ s. s.0.lists ≡ is_some limit) }
+        ensures limit { IfOk result (λ s. s.0.limit ≡ limit) }
+        ensures lists { IfOk result (λ s. s.0.lists ≡ true) }
         ensures units { IfOk result (λ s. IsLaidOut s.0) }
         ensures count { IfOk result (λ s. s.0.ports ≡ ports) }
         ensures ports { IfOk result (λ s. s.1.items ≡ new_ports s.0) }
         ensures all { IfOk result (λ s. AreAllPortsOf s.0 s.1.items) }
         ensures versions { IfOk result (λ s. s.0.versions ≡ versions) }
     {
-        Space::made(alloc, geometry, ports, limit, versions)
+        // For the proof alone: it has no more units than there can be regions.
+        let _units = geometry.units();
+        let recorded = Recorded { geometry, limit };
+        Space::made(alloc, geometry.large(), ports, Some(recorded), versions)
+    }
+
+    /// What [`counted`](Space::counted) does, of a namespace of any size and without a limit: the history of each region may have 2^62 entries, and
+    /// no parts are listed.
+    pub fn unrecorded(
+        alloc: Global,
+        geometry: LargeGeometry,
+        ports: u16,
+        versions: bool,
+    ) -> Result<(Space<Count>, Vec<Port<Count>>), SpaceFault>
+        ensures taken { IfOk result (λ s. IsPortCount ports) }
+        ensures refused { IfErr result (IsSpaceFault ports) }
+        ensures namespace { IfOk result (λ s. s.0.namespace ≡ geometry) }
+        ensures limit { IfOk result (λ s. s.0.limit ≡ 2 ^ 62) }
+        ensures lists { IfOk result (λ s. s.0.lists ≡ false) }
+        ensures units { IfOk result (λ s. IsLaidOut s.0) }
+        ensures count { IfOk result (λ s. s.0.ports ≡ ports) }
+        ensures ports { IfOk result (λ s. s.1.items ≡ new_ports s.0) }
+        ensures all { IfOk result (λ s. AreAllPortsOf s.0 s.1.items) }
+        ensures versions { IfOk result (λ s. s.0.versions ≡ versions) }
+    {
+        Space::made(alloc, geometry, ports, None, versions)
     }
 }
 
@@ -147,16 +188,17 @@ impl<K: Kept> Space<K> {
     /// A new space, whatever it keeps.
     fn made(
         alloc: Global,
-        geometry: Geometry,
+        geometry: LargeGeometry,
         ports: u16,
-        limit: Option<Limit>,
+        recorded: Option<Recorded>,
         versions: bool,
     ) -> Result<(Space<K>, Vec<Port<K>>), SpaceFault>
+        requires { AreRecordedOf geometry recorded }
         ensures taken { IfOk result (λ s. IsPortCount ports) }
         ensures refused { IfErr result (IsSpaceFault ports) }
         ensures namespace { IfOk result (λ s. s.0.namespace ≡ geometry) }
-        ensures limit { IfOk result (λ s. s.0.limit ≡ most_entries limit) }
-        ensures lists { IfOk result (λ s. s.0.lists ≡ is_some limit) }
+        ensures limit { IfOk result (λ s. s.0.limit ≡ most_entries (limit_of recorded)) }
+        ensures lists { IfOk result (λ s. s.0.lists ≡ is_some recorded) }
         ensures units { IfOk result (λ s. IsLaidOut s.0) }
         ensures count { IfOk result (λ s. s.0.ports ≡ ports) }
         ensures ports { IfOk result (λ s. s.1.items ≡ new_ports s.0) }
@@ -166,12 +208,15 @@ impl<K: Kept> Space<K> {
         if ports == 0 || ports > MOST_PORTS {
             return Err(SpaceFault::Ports);
         }
-        let (units, dealt) = opened(alloc, geometry, ports, &limit, versions)?;
+        let regions = geometry.regions();
+        let limit = limit_in(&recorded);
+        let (units, dealt) = opened(alloc, &geometry, regions, ports, &limit, versions)?;
         Ok((
             Space {
                 geometry,
+                regions,
                 ports,
-                limit,
+                recorded,
                 versions,
                 units,
             },
@@ -180,23 +225,34 @@ impl<K: Kept> Space<K> {
     }
 
     /// The namespace that it is.
-    pub fn geometry(&self) -> Geometry
+    pub fn geometry(&self) -> LargeGeometry
         ensures { result ≡ self.now.namespace }
     {
         self.geometry
     }
 
-    /// The most entries that a unit's history may have. `None` if the space was opened without a limit: then it is 2^62.
-    pub fn limit(&self) -> Option<Limit>
-        ensures limit { self.now.limit ≡ most_entries result }
-        ensures lists { self.now.lists ≡ is_some result }
-        ensures valid { IfSome result IsLimit }
+    /// Its regions.
+    pub fn regions(&self) -> Regions
+        ensures { result ≡ regions_of self.now.namespace }
     {
-        if let Some(limit) = self.limit {
+        self.regions
+    }
+
+    /// The geometry and the limit with which it was opened. `None` if it was opened without a limit: then the limit is 2^62.
+    pub fn recorded(&self) -> Option<Recorded>
+        ensures geometry { IfSome result (λ it. it.geometry ≡ self.now.namespace) }
+        ensures limit { self.now.limit ≡ most_entries (limit_of result) }
+        ensures lists { self.now.lists ≡ is_some result }
+        ensures valid { IfSome result (λ it. IsLimit it.limit) }
+
+        // Each of its units is a region.
+        ensures few { IfSome result (λ it. units_of self.now.namespace ≤ most_units) }
+    {
+        if let Some(recorded) = self.recorded {
             // For the proof alone: how large it can be.
-            let _entries = limit.entries();
+            let _entries = recorded.limit.entries();
         }
-        self.limit
+        self.recorded
     }
 
     /// Whether it was opened with versions.
@@ -206,16 +262,16 @@ impl<K: Kept> Space<K> {
         self.versions
     }
 
-    /// Brings the port's pass of the unit to the history that it finds. It waits for the unit, and takes no
+    /// Brings the port's pass of the region to the history that it finds. It waits for the region, and takes no
     /// memory.
-    pub fn refresh<R: Wait>(&self, rt: &R, port: &mut Port<K>, unit: u16)
+    pub fn refresh<R: Wait>(&self, rt: &R, port: &mut Port<K>, region: u16)
         requires of { IsPortOf self.now port.old }
-        requires known { unit < units_of self.now.namespace }
+        requires known { region < units_of (regions_of self.now.namespace) }
         ensures of { IsPortOf self.now port.new }
         ensures number { port.new.number ≡ port.old.number }
-        ensures up { BecomesAt unit IsBroughtUp (views_of port.old.passes) (views_of port.new.passes) }
+        ensures up { BecomesAt region IsBroughtUp (views_of port.old.passes) (views_of port.new.passes) }
     {
-        let place = usize::from(unit);
+        let place = usize::from(region);
         self.units[place].refresh(rt, &mut port.passes[place]);
     }
 
@@ -234,7 +290,7 @@ impl<K: Kept> Space<K> {
         meet_in_each(rt, &self.units, &mut one.passes, &mut other.passes);
     }
 
-    /// What is kept of the whole history of each unit, in the order of the units, once nobody uses the space any more: the
+    /// What is kept of the whole history of each region, in their order, once nobody uses the space any more: the
     /// history, or the number of its entries. The ports are those that came with the space, in their order. It waits for
     /// nothing. A refusal of memory leaves nothing.
     pub fn close(self, alloc: Global, ports: Vec<Port<K>>) -> Result<Vec<K>, NoMemory>
@@ -245,8 +301,9 @@ impl<K: Kept> Space<K> {
     {
         let Space {
             geometry: _,
+            regions: _,
             ports: _,
-            limit: _,
+            recorded: _,
             versions: _,
             units,
         } = self;
@@ -255,24 +312,34 @@ impl<K: Kept> Space<K> {
 }
 
 impl Space {
-    /// Brings the port's pass of the unit to the history that it finds, and gives a copy of it. It waits for the
-    /// unit. Where memory is refused, the pass is brought up nevertheless.
+    /// Brings the port's pass of the region to the history that it finds, and gives a copy of it. It waits for the
+    /// region. Where memory is refused, the pass is brought up nevertheless.
     pub fn history<R: Wait>(
         &self,
         rt: &R,
         alloc: Global,
         port: &mut Port,
-        unit: u16,
+        region: u16,
     ) -> Result<History, NoMemory>
         requires of { IsPortOf self.now port.old }
-        requires known { unit < units_of self.now.namespace }
+        requires known { region < units_of (regions_of self.now.namespace) }
         ensures of { IsPortOf self.now port.new }
         ensures number { port.new.number ≡ port.old.number }
-        ensures up { BecomesAt unit IsBroughtUp (views_of port.old.passes) (views_of port.new.passes) }
-        ensures seen { IfOk result (λ v. (view : PassView) → IsAt (views_of port.new.passes) unit view
+        ensures up { BecomesAt region IsBroughtUp (views_of port.old.passes) (views_of port.new.passes) }
+        ensures seen { IfOk result (λ v. (view : PassView) → IsAt (views_of port.new.passes) region view
             → v.items ≡ view.seen) }
     {
-        let place = usize::from(unit);
+        let place = usize::from(region);
         self.units[place].history(rt, alloc, &mut port.passes[place])
+    }
+}
+
+/// The most entries of a unit's history, where there is such a limit.
+fn limit_in(recorded: &Option<Recorded>) -> Option<Limit>
+    ensures { result ≡ limit_of recorded.now }
+{
+    match recorded {
+        Some(recorded) => Some(recorded.limit),
+        None => None,
     }
 }

@@ -1,7 +1,7 @@
 //! A job that is done without waiting: begun, gone on with as far as the units are free, and done.
-ghost use Rattle.std.specs.Prelude.{◌≡◌, ◌<◌, ◌^◌, ℕ, Bool, true, List, [], length, vec_capacity, vec_len, Some, None, IfOk};
+ghost use Rattle.std.specs.Prelude.{◌≡◌, ◌<◌, ◌^◌, ℕ, Bool, true, List, [], is_some, length, vec_capacity, vec_len, Some, None, IfOk};
 ghost use Rattle.nvm_record.specs.declared.status.Statuses.{Statuses as Told};
-ghost use Rattle.nvm_geometry.specs.Boundaries.{units_of};
+ghost use Rattle.nvm_geometry.specs.Large.{region_of, regions_of};
 ghost use Rattle.nvm_geometry.specs.Namespace.{Namespace};
 ghost use Rattle.nvm_plan.specs.Checks.{refusal_of};
 ghost use Rattle.nvm_plan.specs.Fits.{FitsNamespace};
@@ -14,22 +14,24 @@ ghost use Rattle.nvm_store.specs.Place.{IsCovered};
 ghost use Rattle.nvm_store.specs.declared.place.Place.{Place as UnitPlace};
 ghost use Rattle.nvm_unit.specs.declared.views.PassView.{PassView};
 ghost use Rattle.nvm_space.specs.Inside.Parts.{reply_told};
+ghost use Rattle.nvm_space.specs.Inside.Recorded.{AreRecordedOf};
 ghost use Rattle.nvm_space.specs.Inside.Replying.{Follows, HasReplied, RepliesTo, left_of, with_part};
 ghost use Rattle.nvm_space.specs.Progress.{IsProgress};
 ghost use Rattle.nvm_space.specs.Trace.{part_ended};
-ghost use Rattle.nvm_space.specs.UnderWay.{UnderWay, IsUnderWay, units_left};
+ghost use Rattle.nvm_space.specs.UnderWay.{UnderWay, IsUnderWay, next_unit, units_left};
 ghost use Rattle.nvm_space.specs.declared.replies.PartReply.{PartReply as ReplyToPart};
 
 use crate::job_done::JobDone;
 use crate::replies::{PartReply, gathered};
-use nvm_geometry::{Geometry, laws};
+use crate::space::Recorded;
+use nvm_geometry::{LargeGeometry, laws};
 use nvm_plan::laws::{
     answers_of_the_step_are_replies, each_command_has_a_status, outcomes_are_made_part_by_part,
     outcomes_by_plan, parts_of_jobs, ready_jobs,
 };
 use nvm_plan::{
-    Body, Job, LentPart, Part, PartResult, Plan, job_part_there, next_job_unit, plan,
-    ready_part_count,
+    Body, Job, LentPart, Part, PartResult, first_reached, next_reached, part_at, ready_part_count,
+    refusal,
 };
 use nvm_record::{NoMemory, Op};
 use std::alloc::Global;
@@ -42,8 +44,8 @@ use std::marker::Model;
 #[derive(Drop)]
 pub struct JobUnderWay {
     pub(crate) number: u32,
-    /// The unit of the next part.
-    unit: u16,
+    /// The lowest LBA of the next part.
+    lba: u64,
     /// The parts that were done, with room for all that are left, where they are listed.
     parts: Vec<Part>,
     /// What they read.
@@ -59,7 +61,7 @@ impl Model for JobUnderWay {
 
     ghost view = { λ w. record {
       number = w.number;
-      unit = w.unit;
+      lba = w.lba;
       parts = w.parts.items;
       bytes = w.bytes.items;
       room = vec_capacity w.parts;
@@ -79,12 +81,13 @@ pub enum Progress {
 /// done.
 pub(crate) fn begin(
     alloc: Global,
-    geometry: &Geometry,
-    lists: bool,
+    geometry: &LargeGeometry,
+    recorded: Option<Recorded>,
     number: u32,
     job: &Job,
 ) -> Progress
-    ensures { (views : List PassView) → IsProgress geometry.now lists number job.now views views result }
+    requires { AreRecordedOf geometry.now recorded }
+    ensures { (views : List PassView) → IsProgress geometry.now (is_some recorded) number job.now views views result }
 {
     outcomes_by_plan();
     outcomes_are_made_part_by_part();
@@ -92,16 +95,15 @@ pub(crate) fn begin(
     ready_jobs();
     parts_of_jobs();
     laws::ranges_meet_their_units();
-    if let Plan::Refused(statuses) = plan(geometry, job) {
+    if let Some(statuses) = refusal(geometry, job) {
         return Progress::Done(JobDone::of(job, statuses, None, Vec::new(alloc)));
     }
-    let Some(unit) = next_job_unit(geometry, job, 0) else {
+    let Some(lba) = first_reached(geometry, job) else {
         return Progress::Done(JobDone::of_success(job, Vec::new(alloc), Vec::new(alloc)));
     };
-    let count = if lists {
-        ready_part_count(geometry, job)
-    } else {
-        0
+    let count = match &recorded {
+        Some(recorded) => ready_part_count(&recorded.geometry, job),
+        None => 0,
     };
     let Ok(parts) = Vec::with_capacity(alloc, usize::from(count)) else {
         return Progress::Done(JobDone::of_no_part(alloc, job));
@@ -111,63 +113,75 @@ pub(crate) fn begin(
     };
     Progress::Pending(JobUnderWay {
         number,
-        unit,
+        lba,
         parts,
         bytes,
     })
 }
 
 impl JobUnderWay {
-    /// The job's next part, and its unit.
-    pub(crate) fn next_part<'a>(&self, geometry: &Geometry, job: &'a Job) -> (u16, LentPart<'a>)
+    /// An LBA of the unit in which its next part is.
+    pub(crate) fn lba(&self) -> u64
+        ensures { result ≡ self.now.lba }
+    {
+        self.lba
+    }
+
+    /// The job's next part.
+    pub(crate) fn next_part<'a>(&self, geometry: &LargeGeometry, job: &'a Job) -> LentPart<'a>
         requires fits { FitsNamespace geometry.now job.now }
         requires under_way { (start : List PassView) × (now : List PassView)
             × (lists : Bool) × IsUnderWay geometry.now lists job.now self.now start now }
-        ensures unit { result.0 ≡ self.now.unit }
-        ensures known { result.0 < units_of geometry.now }
-        ensures part { plan_spec.job_part_in geometry.now job.now self.now.unit ≡ Some (part_operation_of result.1) }
-        ensures covered { (place : UnitPlace) → IsUnitPlace geometry.now result.0 place
-            → IsCovered place (part_operation_of result.1) }
+        ensures known { self.now.lba < geometry.now.nsze }
+        ensures part { plan_spec.job_part_in geometry.now job.now (next_unit geometry.now self.now) ≡ Some (part_operation_of result) }
+        ensures covered { (place : UnitPlace) → IsUnitPlace (regions_of geometry.now) (region_of geometry.now (next_unit geometry.now self.now)) place
+            → IsCovered place (part_operation_of result) }
     {
+        laws::regions_have_whole_units();
+        laws::each_unit_has_one_place();
         parts_of_jobs();
-        (self.unit, job_part_there(geometry, job, self.unit))
+
+        // For the proof alone: the numbers are those of a namespace.
+        let _nsze = geometry.nsze();
+        part_at(geometry, job, self.lba)
     }
 
     /// What the reply to its next part makes of it.
     pub(crate) fn replied(
         self,
-        geometry: &Geometry,
+        geometry: &LargeGeometry,
         lists: bool,
+        region: u16,
         job: &Job,
         reply: PartReply,
     ) -> Progress
         requires few { lists ≡ true → reply.point < 2 ^ 32 }
+        requires listed { lists ≡ true → region ≡ next_unit geometry.now self }
         requires replies { (start : List PassView) × (now : List PassView) × (new : List PassView)
-            × RepliesTo geometry.now lists job.now self (reply_told reply) start now new }
+            × RepliesTo geometry.now lists job.now self (reply_told (next_unit geometry.now self) reply) start now new }
         ensures progress { (start now new : List PassView)
-            → RepliesTo geometry.now lists job.now self (reply_told reply) start now new
+            → RepliesTo geometry.now lists job.now self (reply_told (next_unit geometry.now self) reply) start now new
             → IsProgress geometry.now lists self.number job.now start new result }
         ensures fewer { left_of geometry.now job.now result < length (units_left geometry.now job.now self) }
     {
         parts_follow_parts();
         parts_of_jobs();
-        let _units = geometry.units();
         let JobUnderWay {
             number,
-            unit,
+            lba,
             mut parts,
             mut bytes,
         } = self;
-        let (at, point) = (reply.unit, reply.point);
+        let point = reply.point;
         let (result, statuses) = gathered(reply, &mut bytes);
-        list_part(lists, &mut parts, at, point, result);
+        list_part(lists, &mut parts, region, point, result);
         if !statuses.is_success() {
             return Progress::Done(JobDone::of(job, statuses, None, parts));
         }
-        match next_job_unit(geometry, job, unit + 1) {
-            Some(unit) => Progress::Pending(JobUnderWay {
+        match next_reached(geometry, job, lba) {
+            Some(lba) => Progress::Pending(JobUnderWay {
                 number,
-                unit,
+                lba,
                 parts,
                 bytes,
             }),
@@ -209,7 +223,7 @@ fn parts_follow_parts()
 }
 
 /// Room for the data of a Read over several units. In one unit, the data of its one part is taken as it is.
-fn room(alloc: Global, geometry: &Geometry, job: &Job) -> Result<Vec<u8>, NoMemory>
+fn room(alloc: Global, geometry: &LargeGeometry, job: &Job) -> Result<Vec<u8>, NoMemory>
     requires { refusal_of geometry.now job.now ≡ None }
     ensures { IfOk result (λ bytes. bytes.items ≡ []) }
 {
@@ -221,7 +235,7 @@ fn room(alloc: Global, geometry: &Geometry, job: &Job) -> Result<Vec<u8>, NoMemo
         return Ok(Vec::new(alloc));
     }
     let blocks = u32::from(command.nlb) + 1;
-    if !geometry.crosses(command.slba, blocks) {
+    if geometry.lies_in_unit(command.slba, blocks) {
         return Ok(Vec::new(alloc));
     }
     Vec::with_capacity(

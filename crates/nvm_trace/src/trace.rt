@@ -78,7 +78,7 @@ impl Trace {
         if self.jobs.len() >= MOST_JOBS as usize {
             return Err(TraceFault::Full);
         }
-        if !fits(&self.geometry, &job.job) || !Version::Two.holds(&job.job.body) {
+        if !fits(&self.geometry.large(), &job.job) || !Version::Two.holds(&job.job.body) {
             return Err(TraceFault::JobUnfit);
         }
         if job.began == 0 {

@@ -10,9 +10,9 @@ use Rattle.nvm_space.specs.declared.job_done.JobDone.{JobDone}
 use Rattle.nvm_c.specs.Submitted.{Buffers}
 use Rattle.nvm_c.specs.Told.{all_posted}
 
--- Since `start` the job was done, and C was told of it: what it read took the room's place. Or its unit wasn't to be had.
+-- Since `start` the job was done, and C was told of it: what it read took the room's place. Or its region wasn't to be had.
 abbrev pub IsToldAtOnce : Bool → SpaceName → ℕ → Job → ℕ → List PassView → List PassView → Buffers → Buffers → Type 0
-IsToldAtOnce true s number job unit start now old new =
+IsToldAtOnce true s number job region start now old new =
     (told : JobDone) × DoesJob s.namespace s.lists number job start now told × (new.posted ≡ all_posted told.completions)
     × (new.bytes ≡ unwrap_or (data_in told.completions) old.bytes)
-IsToldAtOnce false s number job unit start now old new = MayHaveWaited unit start now × (new ≡ old)
+IsToldAtOnce false s number job region start now old new = MayHaveWaited region start now × (new ≡ old)

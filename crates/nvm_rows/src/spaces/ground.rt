@@ -75,7 +75,12 @@ impl Ground<History> {
 impl Ground<Count> {
     /// Without versions.
     pub fn counted(alloc: Global, limit: Option<Limit>) -> Result<Ground<Count>, RowFault> {
-        match Space::unrecorded(alloc, namespace()?, 2, limit, false) {
+        let namespace = namespace()?;
+        let opened = match limit {
+            Some(limit) => Space::counted(alloc, namespace, 2, limit, false),
+            None => Space::unrecorded(alloc, namespace.large(), 2, false),
+        };
+        match opened {
             Ok((space, ports)) => with_both(space, ports),
             Err(_) => Err(RowFault::NoMemory),
         }

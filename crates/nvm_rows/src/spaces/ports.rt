@@ -28,7 +28,7 @@ pub fn called<K: Kept>(
     match call {
         ["refresh", unit] => {
             let unit = number(unit)?;
-            if unit >= space.geometry().units() {
+            if unit >= space.regions().count() {
                 return Err(RowFault::Unread);
             }
             space.refresh(rt, port, unit);
@@ -136,7 +136,7 @@ pub fn history(
     ensures of { IsPortOf space.now port.new }
     ensures number { port.new.number ≡ port.old.number }
 {
-    if unit >= space.geometry().units() {
+    if unit >= space.regions().count() {
         return Err(RowFault::Unread);
     }
     match space.history(rt, alloc, port, unit) {

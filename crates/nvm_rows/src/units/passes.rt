@@ -93,7 +93,7 @@ fn worked<K: Kept>(
     let Ok(namespace) = Geometry::new(16, 512, 7, 0, 7, 7) else {
         return Err(RowFault::Unread);
     };
-    if !fits(&namespace, job) {
+    if !fits(&namespace.large(), job) {
         return Err(RowFault::Unread);
     }
     match job_part_in(&namespace, job, 0) {

@@ -1,6 +1,7 @@
 use Rattle.std.proofs.Common.{◌≡◌, ◌<◌, ◌∙◌, ℕ, Bool, true, List, [], ◌∷◌, length, map, set, get_or, refl, ap, subst, sym, arith}
 use Rattle.std.specs.List.{range_with_len}
 use Rattle.std.proofs.lemmas.List.{length-map}
+use Rattle.nvm_geometry.specs.Large.{regions_of}
 use Rattle.nvm_geometry.specs.Namespace.{Namespace}
 use Rattle.nvm_store.specs.HistoryEntry.{HistoryEntry}
 use Rattle.nvm_unit.specs.Ends.{views_of}
@@ -25,7 +26,8 @@ returns-clause-lawful g c =
     let s = c.in_ok-space.space in
     let after = set c.in_ok-space.ports.items 0 c.run_job-done.new.port in
     let ended = c.in_ok-histories.histories.items in
-    subst (λ (ns : Namespace). AreLawfulHistories ns (map (λ history. history.items) ended)) c.in_ok-space.ensures.namespace
+    subst (λ (ns : Namespace). AreLawfulHistories ns (map (λ history. history.items) ended))
+    (ap regions_of c.in_ok-space.ensures.namespace ∙ c.few_units_are_regions.ensures.same c.args.geometry c.nsze-nsze.ensures.valid.some c.nsze-nsze.ensures.valid.units)
     (c.units_end_with_lawful_histories.ensures s after (map (λ history. history.items) ended) c.in_ok-space.ensures.units
     (length-map ended (λ history. history.items) ∙ c.in_ok-histories.ensures.count)
     (λ k unit history is at.

@@ -33,4 +33,5 @@ returns c s ports r is =
     record { acts = parts.0; does = parts.1; shows = parts.2 } in
     gathered.record_lawful answers marks histories s ports r shown
     (λ d old new done. c.parts_show_what_was_done.ensures.shape s.namespace r.jobs d old new done) is
+    (c.few_units_are_regions.ensures.same s.namespace is.valid.some is.valid.units)
     (c.done_reads_are_whole.ensures.gathered s ports r is)

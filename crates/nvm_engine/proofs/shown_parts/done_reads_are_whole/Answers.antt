@@ -9,4 +9,4 @@ returns-clause-done c =
 pub returns-clause-gathered : goal.returns-clause-gathered
 returns-clause-gathered c =
     reads.gathered_are_whole c.pieces_stand_in_line.ensures.in_line c.ready_jobs.ensures.range c.whole_ranges_are_reached.ensures.units
-    c.lawful_replay_has_block_size.ensures.replay c.steps_keep_block_sizes.ensures.payload c.ready_jobs.ensures.pair
+    c.lawful_replay_has_block_size.ensures.replay c.steps_keep_block_sizes.ensures.payload c.ready_jobs.ensures.pair c.few_units_are_regions.ensures.same

@@ -1,4 +1,5 @@
 use Rattle.std.proofs.Common.{ℕ, List, [], ◌∷◌, refl, sym, ap, ◌∙◌, subst}
+use Rattle.nvm_geometry.specs.Large.{region_of}
 use Rattle.nvm_plan.specs.JobPart.{job_part_in}
 use Rattle.nvm_plan.specs.Outcome.{AreDone, IsOutcome}
 use Rattle.nvm_plan.specs.Reply.{IsReplyTo}
@@ -32,7 +33,7 @@ returns c = λ ns number job unit part r ok start now old only at becomes is_ok.
       buffer = data_alike job.host job.body r.statuses r.payload old each (λ two. two_read_none number part r becomes.before becomes.after two becomes.so);
       does = λ done completions none. record {
         parts = part_done number part r ∷ [];
-        does = (now, subst (λ (u : ℕ). BecomesAt u (DoesPart (part_done number part r)) start now) (sym at) becomes, refl);
+        does = (now, subst (λ (u : ℕ). BecomesAt (region_of ns u) (DoesPart (part_done number part r)) start now) (sym at) becomes, refl);
         each = ((refl, ap (λ (u : ℕ). job_part_in ns job u) at ∙ only.in_unit), tt);
         told = r.statuses;
         read = r.payload;

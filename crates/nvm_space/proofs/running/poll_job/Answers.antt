@@ -1,5 +1,7 @@
-use Rattle.std.proofs.Common.{◌≡◌, ℕ, length, set, refl, sym, ap, ◌∙◌, subst, arith}
+use Rattle.std.proofs.Common.{◌≡◌, ℕ, ◌<◌, length, set, refl, sym, ap, ◌∙◌, subst, arith}
 use Rattle.nvm_geometry.specs.Boundaries.{units_of}
+use Rattle.nvm_geometry.specs.Large.{regions_of}
+use Rattle.nvm_geometry.specs.Namespace.{Namespace}
 use Rattle.nvm_plan.specs.LentPart.{part_operation_of}
 use Rattle.nvm_plan.specs.UnitPlace.{IsUnitPlace}
 use Rattle.nvm_unit.specs.Ends.{views_of}
@@ -7,9 +9,9 @@ use Rattle.nvm_unit.specs.Replies.{Waits}
 use Rattle.nvm_space.specs.Inside.Parts.{part_done, reply_told}
 use Rattle.nvm_space.specs.Progress.{IsProgress}
 use Rattle.nvm_space.specs.Trace.{DoesPart}
-use Rattle.nvm_space.specs.UnderWay.{UnderWay}
+use Rattle.nvm_space.specs.UnderWay.{UnderWay, next_unit}
 use Rattle.nvm_space.proofs.Meetings.{unit_there, of_unit, still_all, becomes}
-use Rattle.nvm_space.proofs.NextParts.{match_none, replies_so, still_under_way, when_done, when_pending}
+use Rattle.nvm_space.proofs.NextParts.{match_none, region_here, replies_so, still_under_way, when_done, when_pending}
 use Rattle.nvm_space.proofs.running.poll_job.Goals as goal
 
 pub returns-in-Done-clause-goes : goal.returns-in-Done-clause-goes
@@ -17,111 +19,139 @@ returns-in-Done-clause-goes g c = λ start under.
     when_done c.args.geometry.now c.args.lists c.args.under_way.number c.args.job.now start (views_of c.loop-progress.passes.items) c.loop-progress.progress c.in-Done.done c.in-Done.is
     (c.loop-progress.invariant.progress start under)
 
-pub next_part-unit-requires-clause-under_way : goal.next_part-unit-requires-clause-under_way
-next_part-unit-requires-clause-under_way g c =
+pub next_part-part-requires-clause-under_way : goal.next_part-part-requires-clause-under_way
+next_part-part-requires-clause-under_way g c =
+    let ns = c.args.geometry.now in
+    let job = c.args.job.now in
+    let w = c.in-Pending.under_way in
     let start = c.requires.under_way.0 in
     let now = views_of c.loop-progress.passes.items in
-    let known = when_pending c.args.geometry.now c.args.lists c.args.under_way.number c.args.job.now start now c.loop-progress.progress c.in-Pending.under_way c.in-Pending.is
-    (c.loop-progress.invariant.progress start c.requires.under_way.1) in
+    let known = when_pending ns c.args.lists c.args.under_way.number job start now c.loop-progress.progress w c.in-Pending.is (c.loop-progress.invariant.progress start c.requires.under_way.1) in
     (start, now, c.args.lists, known.1)
 
 pub index_mut-requires : goal.index_mut-requires
 index_mut-requires g c =
+    let ns = c.args.geometry.now in
+    let regions = regions_of ns in
+    let few = subst (λ (r : Namespace). c.region_of-region.result < units_of r) c.requires.regions c.region_of-region.ensures.valid in
     let all = c.loop-progress.invariant.passes c.requires.passes.0 c.requires.passes.1 in
     let counts : length c.loop-progress.passes.items ≡ length c.args.units.now = all.count in
-    let count : length c.args.units.now ≡ units_of c.args.geometry.now = c.requires.units.count in
-    omega (arith, c.next_part-unit.ensures.known, c.from-place.ensures, count, counts, c.loop-progress.passes.ok.0)
+    let count : length c.args.units.now ≡ units_of regions = c.requires.units.count in
+    omega (arith, few, c.from-place.ensures, count, counts, c.loop-progress.passes.ok.0)
 
 pub poll_part-polled-requires-clause-of : goal.poll_part-polled-requires-clause-of
 poll_part-polled-requires-clause-of g c =
+    let ns = c.args.geometry.now in
+    let regions = regions_of ns in
+    let few = subst (λ (r : Namespace). c.region_of-region.result < units_of r) c.requires.regions c.region_of-region.ensures.valid in
     let all = c.loop-progress.invariant.passes c.requires.passes.0 c.requires.passes.1 in
-    of_unit c.args.geometry.now c.args.units.now c.args.units.now c.requires.passes.0 c.next_part-unit.result.0 c.from-place.result c.loop-progress.passes.items c.index-units-place.result c.index_mut.result.now
-    c.requires.units.count refl all c.next_part-unit.ensures.known c.from-place.ensures c.index-units-place.is c.index_mut.ensures.value
+    of_unit regions c.args.units.now c.args.units.now c.requires.passes.0 c.region_of-region.result c.from-place.result c.loop-progress.passes.items c.index-units-place.result c.index_mut.result.now
+    c.requires.units.count refl all few c.from-place.ensures c.index-units-place.is c.index_mut.ensures.value
 
 pub poll_part-polled-requires-clause-covered : goal.poll_part-polled-requires-clause-covered
 poll_part-polled-requires-clause-covered g c =
     let ns = c.args.geometry.now in
+    let regions = regions_of ns in
+    let few = subst (λ (r : Namespace). c.region_of-region.result < units_of r) c.requires.regions c.region_of-region.ensures.valid in
     let all = c.loop-progress.invariant.passes c.requires.passes.0 c.requires.passes.1 in
-    let there = unit_there ns c.args.units.now c.args.units.now c.requires.passes.0 c.next_part-unit.result.0 c.from-place.result c.loop-progress.passes.items c.index-units-place.result c.index_mut.result.now
-    c.requires.units.count refl all c.next_part-unit.ensures.known c.from-place.ensures c.index-units-place.is c.index_mut.ensures.value in
-    c.next_part-unit.ensures.covered c.index-units-place.result.bounds.place
-    (subst (λ (k : ℕ). IsUnitPlace ns k c.index-units-place.result.bounds.place) c.from-place.ensures (c.requires.units.place c.from-place.result c.index-units-place.result there))
+    let w = c.in-Pending.under_way in
+    let here = region_here ns c.args.regions c.region_of-region.result c.lba.result w (λ x. c.regions_have_whole_units.ensures.number ns x c.nsze-nsze.ensures.valid) c.requires.regions c.lba.ensures c.region_of-region.ensures.value in
+    let there = unit_there regions c.args.units.now c.args.units.now c.requires.passes.0 c.region_of-region.result c.from-place.result c.loop-progress.passes.items c.index-units-place.result c.index_mut.result.now
+    c.requires.units.count refl all few c.from-place.ensures c.index-units-place.is c.index_mut.ensures.value in
+    c.next_part-part.ensures.covered c.index-units-place.result.bounds.place
+    (subst (λ (k : ℕ). IsUnitPlace regions k c.index-units-place.result.bounds.place) (c.from-place.ensures ∙ here) (c.requires.units.place c.from-place.result c.index-units-place.result there))
 
 pub returns-in_default-clause-passes : goal.returns-in_default-clause-passes
 returns-in_default-clause-passes g c = λ n its.
-    still_all c.args.geometry.now c.args.units.now c.args.units.now n c.next_part-unit.result.0 c.from-place.result c.loop-progress.passes.items c.index-units-place.result c.index_mut.result.now
-    c.requires.units.count refl (c.loop-progress.invariant.passes n its) c.next_part-unit.ensures.known c.from-place.ensures c.index-units-place.is c.index_mut.ensures.value
+    let ns = c.args.geometry.now in
+    let regions = regions_of ns in
+    let few = subst (λ (r : Namespace). c.region_of-region.result < units_of r) c.requires.regions c.region_of-region.ensures.valid in
+    still_all regions c.args.units.now c.args.units.now n c.region_of-region.result c.from-place.result c.loop-progress.passes.items c.index-units-place.result c.index_mut.result.now
+    c.requires.units.count refl (c.loop-progress.invariant.passes n its) few c.from-place.ensures c.index-units-place.is c.index_mut.ensures.value
     c.poll_part-polled.new.pass c.poll_part-polled.ensures.of c.poll_part-polled.ensures.number
 
 pub returns-in_default-clause-goes : goal.returns-in_default-clause-goes
 returns-in_default-clause-goes g c = λ start under.
     let ns = c.args.geometry.now in
+    let regions = regions_of ns in
+    let few = subst (λ (r : Namespace). c.region_of-region.result < units_of r) c.requires.regions c.region_of-region.ensures.valid in
     let job = c.args.job.now in
     let w = c.in-Pending.under_way in
-    let unit = c.next_part-unit.result.0 in
     let now = views_of c.loop-progress.passes.items in
     let new = views_of (set c.loop-progress.passes.items c.from-place.result c.poll_part-polled.new.pass) in
     let known = when_pending ns c.args.lists c.args.under_way.number job start now c.loop-progress.progress w c.in-Pending.is (c.loop-progress.invariant.progress start under) in
     let all = c.loop-progress.invariant.passes c.requires.passes.0 c.requires.passes.1 in
+    let here = region_here ns c.args.regions c.region_of-region.result c.lba.result w (λ x. c.regions_have_whole_units.ensures.number ns x c.nsze-nsze.ensures.valid) c.requires.regions c.lba.ensures c.region_of-region.ensures.value in
     let waits = match_none (Waits c.index_mut.result.now.view c.poll_part-polled.new.pass.view) c.poll_part-polled.result _ c.in_default.not-Some c.poll_part-polled.ensures.does in (
       known.0,
-      still_under_way ns c.args.lists unit job w start now new c.waiting_is_no_step.ensures.again c.next_part-unit.ensures.unit known.1
-          (becomes ns c.args.units.now c.args.units.now c.requires.passes.0 unit c.from-place.result c.loop-progress.passes.items c.index-units-place.result c.index_mut.result.now
-          c.requires.units.count refl all c.next_part-unit.ensures.known c.from-place.ensures c.index-units-place.is c.index_mut.ensures.value
+      still_under_way ns c.args.lists c.region_of-region.result job w start now new c.waiting_is_no_step.ensures.again here known.1
+          (becomes regions c.args.units.now c.args.units.now c.requires.passes.0 c.region_of-region.result c.from-place.result c.loop-progress.passes.items c.index-units-place.result c.index_mut.result.now
+          c.requires.units.count refl all few c.from-place.ensures c.index-units-place.is c.index_mut.ensures.value
           Waits c.loop-progress.passes.items c.poll_part-polled.new.pass refl waits c.poll_part-polled.ensures.proper),
     )
 
 pub replied-progress-requires-clause-few : goal.replied-progress-requires-clause-few
 replied-progress-requires-clause-few g c = λ listed.
+    let ns = c.args.geometry.now in
+    let regions = regions_of ns in
+    let few = subst (λ (r : Namespace). c.region_of-region.result < units_of r) c.requires.regions c.region_of-region.ensures.valid in
     let all = c.loop-progress.invariant.passes c.requires.passes.0 c.requires.passes.1 in
-    let there =
-    unit_there c.args.geometry.now c.args.units.now c.args.units.now c.requires.passes.0 c.next_part-unit.result.0 c.from-place.result c.loop-progress.passes.items c.index-units-place.result c.index_mut.result.now
-    c.requires.units.count refl all c.next_part-unit.ensures.known c.from-place.ensures c.index-units-place.is c.index_mut.ensures.value in
+    let there = unit_there regions c.args.units.now c.args.units.now c.requires.passes.0 c.region_of-region.result c.from-place.result c.loop-progress.passes.items c.index-units-place.result c.index_mut.result.now
+    c.requires.units.count refl all few c.from-place.ensures c.index-units-place.is c.index_mut.ensures.value in
     let limit = c.requires.units.limit listed c.from-place.result c.index-units-place.result there in
-    let within = c.in-Some.ensures.does.1 in
+    let within = c.in-Some.ensures.does.0 in
     omega (arith, limit.1, within)
+
+pub replied-progress-requires-clause-listed : goal.replied-progress-requires-clause-listed
+replied-progress-requires-clause-listed g c = λ listed.
+    let ns = c.args.geometry.now in
+    let w = c.in-Pending.under_way in
+    let here = region_here ns c.args.regions c.region_of-region.result c.lba.result w (λ x. c.regions_have_whole_units.ensures.number ns x c.nsze-nsze.ensures.valid) c.requires.regions c.lba.ensures c.region_of-region.ensures.value in
+    here ∙ c.few_units_are_regions.ensures.unit ns (next_unit ns w) c.nsze-nsze.ensures.valid.some (c.requires.few listed)
 
 pub replied-progress-requires-clause-replies : goal.replied-progress-requires-clause-replies
 replied-progress-requires-clause-replies g c =
     let ns = c.args.geometry.now in
+    let regions = regions_of ns in
+    let few = subst (λ (r : Namespace). c.region_of-region.result < units_of r) c.requires.regions c.region_of-region.ensures.valid in
     let job = c.args.job.now in
     let w = c.in-Pending.under_way in
-    let unit = c.next_part-unit.result.0 in
     let start = c.requires.under_way.0 in
     let now = views_of c.loop-progress.passes.items in
     let new = views_of (set c.loop-progress.passes.items c.from-place.result c.poll_part-polled.new.pass) in
     let known = when_pending ns c.args.lists c.args.under_way.number job start now c.loop-progress.progress w c.in-Pending.is (c.loop-progress.invariant.progress start c.requires.under_way.1) in
     let all = c.loop-progress.invariant.passes c.requires.passes.0 c.requires.passes.1 in
-    let part = part_operation_of c.next_part-unit.result.1 in
-    let does = becomes ns c.args.units.now c.args.units.now c.requires.passes.0 unit c.from-place.result c.loop-progress.passes.items c.index-units-place.result c.index_mut.result.now
-    c.requires.units.count refl all c.next_part-unit.ensures.known c.from-place.ensures c.index-units-place.is c.index_mut.ensures.value
-    (DoesPart (part_done c.under_way.inside.number part (reply_told c.in-Some.reply))) c.loop-progress.passes.items c.poll_part-polled.new.pass refl c.in-Some.ensures.does.2 c.poll_part-polled.ensures.proper in (
-      start,
-      now,
-      new,
-      replies_so ns c.args.lists c.under_way.inside.number unit job w (reply_told c.in-Some.reply) part start now new (known.0 ∙ sym (ap (λ (x : UnderWay). x.number) c.under_way.view_is)) c.next_part-unit.ensures.unit known.1 c.next_part-unit.ensures.part c.in-Some.ensures.does.0 does,
-    )
+    let here = region_here ns c.args.regions c.region_of-region.result c.lba.result w (λ x. c.regions_have_whole_units.ensures.number ns x c.nsze-nsze.ensures.valid) c.requires.regions c.lba.ensures c.region_of-region.ensures.value in
+    let part = part_operation_of c.next_part-part.result in
+    let reply = reply_told (next_unit ns w) c.in-Some.reply in
+    let does = becomes regions c.args.units.now c.args.units.now c.requires.passes.0 c.region_of-region.result c.from-place.result c.loop-progress.passes.items c.index-units-place.result c.index_mut.result.now
+    c.requires.units.count refl all few c.from-place.ensures c.index-units-place.is c.index_mut.ensures.value
+    (DoesPart (part_done c.under_way.inside.number part reply)) c.loop-progress.passes.items c.poll_part-polled.new.pass refl (c.in-Some.ensures.does.1 (next_unit ns w)) c.poll_part-polled.ensures.proper in
+    (start, now, new, replies_so ns c.args.lists c.under_way.inside.number c.region_of-region.result job w reply part start now new (known.0 ∙ sym (ap (λ (x : UnderWay). x.number) c.under_way.view_is)) here known.1 c.next_part-part.ensures.part refl does)
 
 pub loop-progress-preserved : goal.loop-progress-preserved
 loop-progress-preserved g c =
     let ns = c.args.geometry.now in
+    let regions = regions_of ns in
+    let few = subst (λ (r : Namespace). c.region_of-region.result < units_of r) c.requires.regions c.region_of-region.ensures.valid in
     let job = c.args.job.now in
     let w = c.in-Pending.under_way in
-    let unit = c.next_part-unit.result.0 in
     let now = views_of c.loop-progress.passes.items in
     let new = views_of (set c.loop-progress.passes.items c.from-place.result c.poll_part-polled.new.pass) in
     let all = c.loop-progress.invariant.passes c.requires.passes.0 c.requires.passes.1 in
-    let part = part_operation_of c.next_part-unit.result.1 in
-    let does = becomes ns c.args.units.now c.args.units.now c.requires.passes.0 unit c.from-place.result c.loop-progress.passes.items c.index-units-place.result c.index_mut.result.now
-    c.requires.units.count refl all c.next_part-unit.ensures.known c.from-place.ensures c.index-units-place.is c.index_mut.ensures.value
-    (DoesPart (part_done c.under_way.inside.number part (reply_told c.in-Some.reply))) c.loop-progress.passes.items c.poll_part-polled.new.pass refl c.in-Some.ensures.does.2 c.poll_part-polled.ensures.proper in
+    let here = region_here ns c.args.regions c.region_of-region.result c.lba.result w (λ x. c.regions_have_whole_units.ensures.number ns x c.nsze-nsze.ensures.valid) c.requires.regions c.lba.ensures c.region_of-region.ensures.value in
+    let part = part_operation_of c.next_part-part.result in
+    let reply = reply_told (next_unit ns w) c.in-Some.reply in
+    let does = becomes regions c.args.units.now c.args.units.now c.requires.passes.0 c.region_of-region.result c.from-place.result c.loop-progress.passes.items c.index-units-place.result c.index_mut.result.now
+    c.requires.units.count refl all few c.from-place.ensures c.index-units-place.is c.index_mut.ensures.value
+    (DoesPart (part_done c.under_way.inside.number part reply)) c.loop-progress.passes.items c.poll_part-polled.new.pass refl (c.in-Some.ensures.does.1 (next_unit ns w)) c.poll_part-polled.ensures.proper in
     record {
-      passes = λ n its. still_all ns c.args.units.now c.args.units.now n unit c.from-place.result c.loop-progress.passes.items c.index-units-place.result c.index_mut.result.now
-          c.requires.units.count refl (c.loop-progress.invariant.passes n its) c.next_part-unit.ensures.known c.from-place.ensures c.index-units-place.is c.index_mut.ensures.value
+      passes = λ n its. still_all regions c.args.units.now c.args.units.now n c.region_of-region.result c.from-place.result c.loop-progress.passes.items c.index-units-place.result c.index_mut.result.now
+          c.requires.units.count refl (c.loop-progress.invariant.passes n its) few c.from-place.ensures c.index-units-place.is c.index_mut.ensures.value
           c.poll_part-polled.new.pass c.poll_part-polled.ensures.of c.poll_part-polled.ensures.number;
       progress = λ start under.
           let known = when_pending ns c.args.lists c.args.under_way.number job start now c.loop-progress.progress w c.in-Pending.is (c.loop-progress.invariant.progress start under) in
           subst (λ (n : ℕ). IsProgress ns c.args.lists n job start new c.replied-progress.result) known.0
           (c.replied-progress.ensures.progress start now new
-          (replies_so ns c.args.lists c.under_way.inside.number unit job w (reply_told c.in-Some.reply) part start now new (known.0 ∙ sym (ap (λ (x : UnderWay). x.number) c.under_way.view_is)) c.next_part-unit.ensures.unit known.1 c.next_part-unit.ensures.part c.in-Some.ensures.does.0 does));
+          (replies_so ns c.args.lists c.under_way.inside.number c.region_of-region.result job w reply part start now new (known.0 ∙ sym (ap (λ (x : UnderWay). x.number) c.under_way.view_is)) here known.1 c.next_part-part.ensures.part refl does));
     }

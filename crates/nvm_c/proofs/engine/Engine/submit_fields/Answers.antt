@@ -84,7 +84,7 @@ returns-clause-sound c =
             c.requires.unlisted,
             subst (λ (j : Job). IsWaiting (namespace_of e) j (seen_by e) (views_of c.done_at_once.new.port.passes)) is
                 (subst (λ (s : SpaceName). IsWaiting s.namespace job (seen_by e) (views_of c.done_at_once.new.port.passes)) c.deref-space.ensures
-                (record { unit = c.in-Some.unit; part = part_operation_of c.in-Some.part; only = only; waited = waited })),
+                (record { region = c.in-Some.region; part = part_operation_of c.in-Some.part; only = only; waited = waited })),
           ),
         );
       };
@@ -120,7 +120,7 @@ returns-clause-submits c =
             c.requires.unlisted,
             subst (λ (j : Job). IsWaiting (namespace_of e) j (seen_by e) (views_of c.done_at_once.new.port.passes)) is
                 (subst (λ (s : SpaceName). IsWaiting s.namespace job (seen_by e) (views_of c.done_at_once.new.port.passes)) c.deref-space.ensures
-                (record { unit = c.in-Some.unit; part = part_operation_of c.in-Some.part; only = only; waited = goes.0 })),
+                (record { region = c.in-Some.region; part = part_operation_of c.in-Some.part; only = only; waited = goes.0 })),
           );
           log_kept = refl;
           buffers = ap (λ (l : List ℕ). (let b : Buffers = record { bytes = l; posted = c.done_at_once.new.posted } in b)) still

@@ -21,7 +21,7 @@ returns-then-done_at_once-clause-progress c = λ start begun.
     let job : Job = waiting_job w in
     let only = c.in-Some.ensures.part job (lent_as w.fields (c.of.ensures ∙ c.deref.ensures.value) (c.of-2.ensures ∙ c.deref-2.ensures.value)) in
     let here = subst (λ (s : SpaceName). IsWaiting s.namespace job start (seen_by e)) (sym c.deref-space.ensures) begun.1 in
-    let did = c.if-done_at_once.ensures.goes _ _ start only (waits_for_it _ job c.in-Some.unit (part_operation_of c.in-Some.part) start (seen_by e) only here) in
+    let did = c.if-done_at_once.ensures.goes _ _ start only (waits_for_it _ job c.in-Some.region (part_operation_of c.in-Some.part) start (seen_by e) only here) in
     record {
       told = did.0;
       does = subst (λ (s : SpaceName). DoesJob s.namespace s.lists w.number job start (views_of c.done_at_once.new.port.passes) did.0) c.deref-space.ensures did.1;
@@ -43,7 +43,7 @@ returns-clause-sound c =
     let only = c.in-Some.ensures.part job (lent_as w.fields (c.of.ensures ∙ c.deref.ensures.value) (c.of-2.ensures ∙ c.deref-2.ensures.value)) in
     let start = c.requires.begun.0 in
     let here = subst (λ (s : SpaceName). IsWaiting s.namespace job start (seen_by e)) (sym c.deref-space.ensures) c.requires.begun.1.1 in
-    let goes = c.if-done_at_once.ensures.goes _ _ start only (waits_for_it _ job c.in-Some.unit (part_operation_of c.in-Some.part) start (seen_by e) only here) in
+    let goes = c.if-done_at_once.ensures.goes _ _ start only (waits_for_it _ job c.in-Some.region (part_operation_of c.in-Some.part) start (seen_by e) only here) in
     record {
       of = subst (λ (s : SpaceName). IsPortOf s c.done_at_once.new.port) c.deref-space.ensures c.done_at_once.ensures.of;
       few = subst (λ (n : ℕ). n < 64) (sym c.done_at_once.ensures.number) c.requires.few;
@@ -56,7 +56,7 @@ returns-clause-sound c =
           (
             c.requires.begun.1.0,
             subst (λ (s : SpaceName). IsWaiting s.namespace job start (views_of c.done_at_once.new.port.passes)) c.deref-space.ensures
-                (record { unit = c.in-Some.unit; part = part_operation_of c.in-Some.part; only = only; waited = goes.0 }),
+                (record { region = c.in-Some.region; part = part_operation_of c.in-Some.part; only = only; waited = goes.0 }),
           ),
         );
       };
@@ -69,7 +69,7 @@ returns-clause-progress c = λ start begun.
     let job : Job = waiting_job w in
     let only = c.in-Some.ensures.part job (lent_as w.fields (c.of.ensures ∙ c.deref.ensures.value) (c.of-2.ensures ∙ c.deref-2.ensures.value)) in
     let here = subst (λ (s : SpaceName). IsWaiting s.namespace job start (seen_by e)) (sym c.deref-space.ensures) begun.1 in
-    let goes = c.if-done_at_once.ensures.goes _ _ start only (waits_for_it _ job c.in-Some.unit (part_operation_of c.in-Some.part) start (seen_by e) only here) in
+    let goes = c.if-done_at_once.ensures.goes _ _ start only (waits_for_it _ job c.in-Some.region (part_operation_of c.in-Some.part) start (seen_by e) only here) in
     let still : c.done_at_once.new.room ++ c.split_at_mut-room.result.1.now ≡ c.args.data.now =
     ap (λ (b : Buffers). b.bytes ++ c.split_at_mut-room.result.1.now) goes.1 ∙ sym c.split_at_mut-room.ensures.value in
     record {
@@ -80,7 +80,7 @@ returns-clause-progress c = λ start begun.
       goes = (
         begun.0,
         subst (λ (s : SpaceName). IsWaiting s.namespace job start (views_of c.done_at_once.new.port.passes)) c.deref-space.ensures
-            (record { unit = c.in-Some.unit; part = part_operation_of c.in-Some.part; only = only; waited = goes.0 }),
+            (record { region = c.in-Some.region; part = part_operation_of c.in-Some.part; only = only; waited = goes.0 }),
       );
       log_kept = refl;
       buffers = ap (λ (l : List ℕ). (let b : Buffers = record { bytes = l; posted = c.done_at_once.new.posted } in b)) still
