@@ -701,14 +701,15 @@ static bool try_idle_poll(struct worker *w, struct space *s)
         && is_same(w, "written by an idle poll", NULL, told, told_before, sizeof told, length);
 }
 
-/* Whether these are numbers of a namespace. */
-static bool is_namespace(const struct zk_namespace *ns)
+/* Whether these are numbers of a namespace, of one that can be recorded or of one of any size. */
+static bool is_namespace(const struct zk_namespace *ns, bool recorded)
 {
-    if (ns->nsze == 0 || ns->nsze > 65536 || (ns->block_size != 512 && ns->block_size != 4096))
+    uint64_t most = recorded ? ZK_MOST_RECORDED_BLOCKS : ns->nabsn ? ZK_MOST_BLOCKS : UINT32_MAX;
+    if (ns->nsze == 0 || ns->nsze > most || (ns->block_size != 512 && ns->block_size != 4096))
         return false;
     if (ns->nabsn == 0 ? ns->nabo != 0 : ns->nabo > ns->nabsn || ns->nawun > ns->nabsn || ns->nacwu > ns->nabsn)
         return false;
-    return unit_of(ns, ns->nsze - 1) < 4096;
+    return !recorded || unit_of(ns, ns->nsze - 1) < 4096;
 }
 
 /* Opens ports of two namespaces beside one another, and again where some are open, with numbers of any kind. */
@@ -723,20 +724,23 @@ static bool try_opens(struct worker *w)
                                    (uint16_t)below(w, 9), (uint16_t)below(w, 9) };
         ns.nabsn = (uint16_t)(below(w, 4) ? 8 : below(w, 10));
         ns.nabo = (uint16_t)(below(w, 2) ? 0 : below(w, 10));
-        if (below(w, 12) == 0)
-            ns.nsze = below(w, 2) ? below(w, 70000) : 0;
-        uint32_t limit = below(w, 12) ? 1 + (uint32_t)below(w, ZK_MOST_CHANGES) : below(w, 2) ? 0 : ZK_MOST_CHANGES + 1;
+        if (below(w, 12) == 0) {
+            const uint64_t edges[] = { 2, 70000, UINT32_MAX, ZK_MOST_BLOCKS + 3 };
+            uint64_t edge = edges[below(w, 4)];
+            ns.nsze = edge + 2 - below(w, edge < 70001 ? edge + 3 : 4);
+        }
+        uint32_t limit = below(w, 4) ? 1 + (uint32_t)below(w, ZK_MOST_CHANGES) : below(w, 3) ? ZK_NO_LIMIT : ZK_MOST_CHANGES + 1;
         bool versions = below(w, 2);
         size_t first = below(w, 4), count = below(w, 5 - first);
         bool any = false;
         for (size_t i = first; i < first + count; i++)
             any |= open[i];
-        int due = any ? ZK_IS_OPEN : count == 0 ? ZK_BAD_PORTS : !is_namespace(&ns) ? ZK_BAD_NAMESPACE
+        int due = any ? ZK_IS_OPEN : count == 0 ? ZK_BAD_PORTS : !is_namespace(&ns, limit != ZK_NO_LIMIT) ? ZK_BAD_NAMESPACE
             : limit > ZK_MOST_CHANGES ? ZK_BAD_LIMIT : ZK_DONE;
         memcpy(before, ports, sizeof ports);
         if (!judge_code(w, "open", NULL, zk_open(ports + first, count, &ns, limit, versions), BIT(due)))
             return false;
-        if (!identify(w, NULL, &ns, ZK_IDENTIFY_BYTES, is_namespace(&ns) ? ZK_DONE : ZK_BAD_NAMESPACE))
+        if (!identify(w, NULL, &ns, ZK_IDENTIFY_BYTES, is_namespace(&ns, false) ? ZK_DONE : ZK_BAD_NAMESPACE))
             return false;
         if (due != ZK_DONE && memcmp(ports, before, sizeof ports) != 0)
             return wrong(w, "ports written by a refused open", NULL, (uint64_t)due, ZK_DONE);

@@ -2,9 +2,8 @@
  *
  *     nbdkit ./nbdkit-zalkvorn.so size=64M [block=512|4096] [unit=BLOCKS] [ports=COUNT] [most=BLOCKS]
  *
- * `size` is a multiple of the block size, at most 65,536 blocks. `unit` blocks are an atomic unit (16, or more where there would be
- * too many units), `ports` is how many requests are done at the same time (16), `most` how many blocks one command has (256): a
- * longer request is cut into several commands. A block that was written holds the data of its whole command until all blocks of that
+ * `size` is a multiple of the block size, at most 2^40 blocks. `unit` blocks are an atomic unit (16), `ports` is how many requests are
+ * done at the same time (16), `most` how many blocks one command has (256): a longer request is cut into several commands. A block that was written holds the data of its whole command until all blocks of that
  * command were written again, so a smaller `most` bounds memory: at worst each block holds `most` blocks.
  *
  * Each request takes a port that no other request has. A mutex hands ports from thread to thread, as the library wants. Blocks
@@ -25,7 +24,7 @@
 
 #define THREAD_MODEL NBDKIT_THREAD_MODEL_PARALLEL
 
-enum { MOST_BLOCKS = 65536, MOST_UNITS = 4096, MOST_BLOCK_SIZE = 4096 };
+enum { MOST_IN_UNIT = 65536, MOST_BLOCK_SIZE = 4096 };
 
 static int64_t size = -1;
 static uint32_t block_size = 4096, ports = 16, most = 256, unit;
@@ -54,21 +53,19 @@ static int zalkvorn_config_complete(void)
         nbdkit_error("zalkvorn: block is 512 or 4096");
         return -1;
     }
-    if (size <= 0 || size % block_size || size / block_size > MOST_BLOCKS) {
-        nbdkit_error("zalkvorn: size is a multiple of %u, at most %u blocks", block_size, MOST_BLOCKS);
+    if (size <= 0 || size % block_size || (uint64_t)size / block_size > ZK_MOST_BLOCKS) {
+        nbdkit_error("zalkvorn: size is a multiple of %u, at most 2^40 blocks", block_size);
         return -1;
     }
-    if (most == 0 || most > MOST_BLOCKS) {
-        nbdkit_error("zalkvorn: most is 1 to %u blocks", MOST_BLOCKS);
+    if (most == 0 || most > MOST_IN_UNIT) {
+        nbdkit_error("zalkvorn: most is 1 to %u blocks", MOST_IN_UNIT);
         return -1;
     }
     uint64_t blocks = (uint64_t)size / block_size;
     if (unit == 0)
         unit = 16;
-    while ((blocks + unit - 1) / unit > MOST_UNITS)
-        unit *= 2;
-    if (unit < 2 || unit > MOST_BLOCKS) {
-        nbdkit_error("zalkvorn: unit is 2 to %u blocks", MOST_BLOCKS);
+    if (unit < 2 || unit > MOST_IN_UNIT) {
+        nbdkit_error("zalkvorn: unit is 2 to %u blocks", MOST_IN_UNIT);
         return -1;
     }
     uint16_t distance = (uint16_t)(unit - 1);
