@@ -1,127 +1,22 @@
 -- The units that a Deallocate meets, range by range, and one after the other.
-use Rattle.std.proofs.Common.{◌≡◌, ◌↔◌, ℕ, ◌+◌, ◌-◌, ◌<◌, ◌≤◌, min, max, Bool, true, false, ◌&&◌, ◌||◌, List, [], ◌∷◌, ◌++◌, map, Option, Some, None, inl, inr, refl, sym, ap, ◌∙◌, subst, arith}
-use Rattle.std.specs.Prelude.{Contains, IfNone, IfSome, filter, nat_le, nat_lt}
+use Rattle.std.proofs.Common.{◌≡◌, ◌↔◌, ℕ, ◌+◌, ◌-◌, ◌<◌, ◌≤◌, Bool, true, false, ◌&&◌, List, [], ◌∷◌, Some, None, inl, inr, refl, sym, ap, ◌∙◌, subst, arith}
+use Rattle.std.specs.Prelude.{Contains, filter, nat_le, nat_lt}
 use Rattle.std.specs.List.{range_with_len}
-use Rattle.std.proofs.Math.Bool.{or_assoc}
-use Rattle.std.proofs.lemmas.Bool.{cases_Bool, cases_lt, or_cases, or_left, or_right, or_from, and_from, and_left, and_right, and_parts, leb-true, ltb-true, le-leb, lt-leb, lt-ltb, le-ltb, false≢true}
+use Rattle.std.proofs.lemmas.Bool.{cases_Bool, cases_lt, or_cases, and_from, and_left, and_right, and_parts, ltb-true, le-leb, lt-leb, lt-ltb, le-ltb, false≢true}
 use Rattle.std.proofs.lemmas.List.Elements.{All-head, All-tail, filter_agree}
-use Rattle.std.proofs.lemmas.List.FromFn.{get_or-map-range_with_len, length-map-range_with_len, map-range_with_len_more}
+use Rattle.std.proofs.lemmas.List.FromFn.{get_or-map-range_with_len, length-map-range_with_len}
 use Rattle.nvm_record.specs.declared.lba_range.LbaRange.{LbaRange}
 use Rattle.nvm_record.specs.Ranges.{range_has, ranges_have, range_at, range_count, ranges_of}
 use Rattle.nvm_record.specs.Step.{Operation, is_in_range, reaches}
 use Rattle.nvm_geometry.specs.Namespace.{Namespace}
 use Rattle.nvm_geometry.specs.Boundaries.{unit_number, units_of}
-use Rattle.nvm_geometry.specs.Deallocation.{EndInNamespace, deallocation, has_block, units_met_from}
+use Rattle.nvm_geometry.specs.Deallocation.{EndInNamespace, deallocation, units_met_from}
 use Rattle.nvm_geometry.specs.Lowest.{IsLowest}
-use Rattle.nvm_geometry.specs.Parts.{blocks_below, blocks_in, reached_in, meets, units_met, units_where}
+use Rattle.nvm_geometry.specs.Parts.{reached_in, meets, units_met, units_where}
 use Rattle.nvm_geometry.proofs.Pieces.{filter_none, kept_first}
-use Rattle.nvm_geometry.proofs.Places.{part_inside, place_in, place_here}
 use Rattle.nvm_geometry.proofs.UnitOrder.{count_rises}
 use Rattle.nvm_geometry.proofs.Reached.{reached_known, reached_some, some_reached}
-use Rattle.nvm_geometry.proofs.UnitPlaces.{between_units, unit_between, unit_is_met}
-
--- one of the ranges has a block in the unit
-abbrev pub any_has_block : Namespace → List LbaRange → ℕ → Bool
-any_has_block ns [] unit = false
-any_has_block ns (r ∷ rs) unit = has_block ns r unit || any_has_block ns rs unit
-
--- so has one more
-pub any_push : (ns : Namespace) (rs : List LbaRange) (r : LbaRange) (unit : ℕ)
-    → any_has_block ns (rs ++ r ∷ []) unit ≡ (any_has_block ns rs unit || has_block ns r unit)
-any_push ns [] r unit =
-    elim (cases_Bool (has_block ns r unit)) [
-      | inl t ↦ rw t refl
-      | inr f ↦ rw f refl
-    ]
-any_push ns (x ∷ rs) r unit =
-    ap (λ b. has_block ns x unit || b) (any_push ns rs r unit)
-    ∙ sym (or_assoc (has_block ns x unit) (any_has_block ns rs unit) (has_block ns r unit))
-
--- and so have the ranges up to the next place of the data
-pub any_more : (ns : Namespace) (payload : List ℕ) (place unit : ℕ)
-    → any_has_block ns (map (range_at payload) (range_with_len 0 (place + 1))) unit
-    ≡ (any_has_block ns (map (range_at payload) (range_with_len 0 place)) unit
-    || has_block ns (range_at payload place) unit)
-any_more ns payload place unit =
-    ap (λ rs. any_has_block ns rs unit) (map-range_with_len_more (range_at payload) 0 place place (omega arith))
-    ∙ any_push ns (map (range_at payload) (range_with_len 0 place)) (range_at payload place) unit
-
--- a range with a block in the unit has an LBA there
-lba_of_block : (ns : Namespace) (r : LbaRange) (unit : ℕ) → has_block ns r unit ≡ true
-    → (lba : ℕ) × (range_has r lba ≡ true) × (lba < r.first + r.blocks) × (unit_number ns lba ≡ unit)
-lba_of_block ns r unit has =
-    let some = ltb-true 0 (blocks_in ns r.first r.blocks unit) has in
-    let lba = r.first + (blocks_below ns r.first r.blocks unit + 0) in
-    let inside : lba < r.first + r.blocks = omega (arith, some, part_inside ns r.first r.blocks unit) in (
-      lba,
-      and_from _ _ (le-leb r.first lba (omega arith)) (lt-ltb lba (r.first + r.blocks) inside),
-      inside,
-      place_here ns r.first r.blocks unit 0 some,
-    )
-
--- and where it has one, it has a block
-block_of_lba : (ns : Namespace) (r : LbaRange) (lba : ℕ) → range_has r lba ≡ true
-    → has_block ns r (unit_number ns lba) ≡ true
-block_of_lba ns r lba has =
-    let parts = and_parts (nat_le r.first lba) (nat_lt lba (r.first + r.blocks)) has in
-    let low = leb-true _ _ parts.0 in
-    let high = ltb-true _ _ parts.1 in
-    let i = lba - r.first in
-    let at : r.first + i ≡ lba = omega (arith, low) in
-    let place = place_in ns r.first r.blocks (unit_number ns lba) i (omega (arith, low, high)) (rw at refl) in
-    lt-ltb 0 (blocks_in ns r.first r.blocks (unit_number ns lba)) (omega (arith, place.0, place.1))
-
--- the same of ranges
-lba_of_ranges : (ns : Namespace) (rs : List LbaRange) (unit : ℕ) → EndInNamespace ns rs
-    → any_has_block ns rs unit ≡ true
-    → (lba : ℕ) × (ranges_have rs lba ≡ true) × (lba < ns.nsze) × (unit_number ns lba ≡ unit)
-lba_of_ranges ns [] unit fit any = absurd (cc any)
-lba_of_ranges ns (r ∷ rs) unit fit any =
-    elim (or_cases (has_block ns r unit) (any_has_block ns rs unit) any) [
-      | inl here ↦
-          let found = lba_of_block ns r unit here in
-          let ends = All-head (λ (x : LbaRange). x.first + x.blocks ≤ ns.nsze) r rs fit in
-          (found.0, or_left _ _ found.1, omega (arith, found.2, ends), found.3)
-      | inr later ↦
-          let ends = All-tail (λ (x : LbaRange). x.first + x.blocks ≤ ns.nsze) r rs fit in
-          let found = lba_of_ranges ns rs unit ends later in
-          (found.0, or_right _ _ found.1, found.2, found.3)
-    ]
-
-ranges_of_lba : (ns : Namespace) (rs : List LbaRange) (lba : ℕ) → ranges_have rs lba ≡ true
-    → any_has_block ns rs (unit_number ns lba) ≡ true
-ranges_of_lba ns [] lba have = absurd (cc have)
-ranges_of_lba ns (r ∷ rs) lba have =
-    elim (or_cases (range_has r lba) (ranges_have rs lba) have) [
-      | inl here ↦ or_left _ _ (block_of_lba ns r lba here)
-      | inr later ↦ or_right _ _ (ranges_of_lba ns rs lba later)
-    ]
-
--- two tests that imply one another
-same_test : (a b : Bool) → (a ≡ true → b ≡ true) → (b ≡ true → a ≡ true) → a ≡ b
-same_test true b to from = sym (to refl)
-same_test false b to from =
-    elim (cases_Bool b) [
-      | inl t ↦ absurd (cc (from t))
-      | inr f ↦ sym f
-    ]
-
--- a Deallocate meets the units in which one of its ranges has a block
-pub meets_any : (ns : Namespace) (rs : List LbaRange) (unit : ℕ) → EndInNamespace ns rs
-    → any_has_block ns rs unit ≡ meets ns (deallocation ns rs) unit
-meets_any ns rs unit fit =
-    same_test (any_has_block ns rs unit) (meets ns (deallocation ns rs) unit)
-    (λ any.
-    let found = lba_of_ranges ns rs unit fit any in
-    let inside : is_in_range (deallocation ns rs) found.0 ≡ true =
-    and_from _ _ (le-leb 0 found.0 (omega arith)) (lt-ltb found.0 (0 + ns.nsze) (omega (arith, found.2))) in
-    lt-ltb 0 (reached_in ns (deallocation ns rs) unit)
-    (reached_some ns (deallocation ns rs) unit found.0
-    (and_from (ranges_have rs found.0) (is_in_range (deallocation ns rs) found.0) found.1 inside) found.3))
-    (λ met.
-    let found = some_reached ns (deallocation ns rs) unit (ltb-true 0 (reached_in ns (deallocation ns rs) unit) met) in
-    let parts = and_parts (ranges_have rs found.0) (is_in_range (deallocation ns rs) found.0) found.1 in
-    rw (← found.2) (ranges_of_lba ns rs found.0 parts.0))
+use Rattle.nvm_geometry.proofs.UnitPlaces.{unit_is_met}
 
 -- an LBA of ranges in the namespace lies in it
 lba_inside : (ns : Namespace) (rs : List LbaRange) (lba : ℕ) → EndInNamespace ns rs → ranges_have rs lba ≡ true
@@ -176,82 +71,6 @@ ranges_end ns payload each k d inside =
     let is = get_or-map-range_with_len (range_at payload) 0 (range_count payload) k k d below (omega arith) in
     let P : LbaRange → Type 0 = λ r. r.first + r.blocks ≤ ns.nsze in
     subst P (sym is) (each k below)
-
--- tests that agree have one lowest number
-pub lowest_agree : (p q : ℕ → Bool) (from : ℕ) (o : Option ℕ) → ((k : ℕ) → p k ≡ q k) → IsLowest p from o
-    → IsLowest q from o
-lowest_agree p q from None same lowest = λ k low. sym (same k) ∙ lowest k low
-lowest_agree p q from (Some unit) same lowest =
-    (lowest.0, sym (same unit) ∙ lowest.1, (λ k low below. sym (same k) ∙ lowest.2 k low below))
-
--- the lowest of one test or another
-pub lowest_both : (p q : ℕ → Bool) (from a b : ℕ) → IsLowest p from (Some a) → IsLowest q from (Some b)
-    → IsLowest (λ k. p k || q k) from (Some (min a b))
-lowest_both p q from a b here there =
-    elim (cases_lt a b) [
-      | inl l ↦
-          let is : min a b ≡ a = omega (arith, l) in
-          rw is (
-            here.0,
-            or_left _ _ here.1,
-            (λ k low below. or_from _ _ (here.2 k low below) (there.2 k low (omega (arith, below, l)))),
-          )
-      | inr l ↦
-          let is : min a b ≡ b = omega (arith, l) in
-          rw is (
-            there.0,
-            or_right _ _ there.1,
-            (λ k low below. or_from _ _ (here.2 k low (omega (arith, below, l))) (there.2 k low below)),
-          )
-    ]
-
-pub lowest_left : (p q : ℕ → Bool) (from a : ℕ) → IsLowest p from (Some a) → IsLowest q from None
-    → IsLowest (λ k. p k || q k) from (Some a)
-lowest_left p q from a here there =
-    (here.0, or_left _ _ here.1, (λ k low below. or_from _ _ (here.2 k low below) (there k low)))
-
-pub lowest_right : (p q : ℕ → Bool) (from : ℕ) (o : Option ℕ) → IsLowest p from None → IsLowest q from o
-    → IsLowest (λ k. p k || q k) from o
-lowest_right p q from None here there = λ k low. or_from _ _ (here k low) (there k low)
-lowest_right p q from (Some b) here there =
-    (there.0, or_right _ _ there.1, (λ k low below. or_from _ _ (here k low) (there.2 k low below)))
-
--- a range without a block has none in any unit
-pub no_block : (ns : Namespace) (r : LbaRange) (unit : ℕ) → r.blocks ≡ 0 → has_block ns r unit ≡ false
-unfolding blocks_in
-no_block ns r unit none = rw none refl
-
--- nor has any range above the unit of its last LBA
-pub block_above : (ns : Namespace) (r : LbaRange) (unit last : ℕ) → last ≡ unit_number ns (r.first + r.blocks - 1)
-    → last < unit
-    → has_block ns r unit ≡ false
-block_above ns r unit last is above =
-    le-ltb 0 (blocks_in ns r.first r.blocks unit)
-    (elim (cases_lt 0 (blocks_in ns r.first r.blocks unit)) [
-      | inl l ↦ absurd (omega (arith, (between_units ns r.first r.blocks unit l).1, is, above))
-      | inr h ↦ h
-    ])
-
--- or below that of its first one
-block_below : (ns : Namespace) (r : LbaRange) (unit : ℕ) → unit < unit_number ns r.first → has_block ns r unit ≡ false
-block_below ns r unit below =
-    le-ltb 0 (blocks_in ns r.first r.blocks unit)
-    (elim (cases_lt 0 (blocks_in ns r.first r.blocks unit)) [
-      | inl l ↦ absurd (omega (arith, (between_units ns r.first r.blocks unit l).0, below))
-      | inr h ↦ h
-    ])
-
--- the lowest unit of a range with a block
-pub lowest_of_range : (ns : Namespace) (r : LbaRange) (from low last : ℕ) → 0 < r.blocks → low ≡ unit_number ns r.first
-    → last ≡ unit_number ns (r.first + r.blocks - 1) → from ≤ last → low ≤ last
-    → IsLowest (has_block ns r) from (Some (max low from))
-lowest_of_range ns r from low last some first end reached rises = (
-  omega arith,
-  lt-ltb 0 (blocks_in ns r.first r.blocks (max low from))
-      (unit_between ns r.first r.blocks (max low from) some (omega (arith, first))
-      (omega (arith, end, reached, rises))),
-  (λ k above below. block_below ns r k (omega (arith, above, below, first))),
-)
 
 -- a filter of a filter keeps what passes both
 filter_twice : (p q : ℕ → Bool) (xs : List ℕ) → filter p (filter q xs) ≡ filter (λ x. q x && p x) xs
@@ -312,43 +131,6 @@ units_from_first ns op = all (units_met ns op)
     all : (xs : List ℕ) → filter (λ unit. nat_le 0 unit) xs ≡ xs
     all [] = refl
     all (x ∷ xs) = rw (le-leb 0 x (omega arith)) (ap (λ ys. x ∷ ys) (all xs))
-
--- a Deallocate meets no unit that isn't one of the namespace's
-met_below : (ns : Namespace) (rs : List LbaRange) (unit : ℕ) → meets ns (deallocation ns rs) unit ≡ true
-    → unit < units_of ns
-met_below ns rs unit met =
-    reached_known ns (deallocation ns rs) unit (omega arith) (ltb-true 0 (reached_in ns (deallocation ns rs) unit) met)
-
-pub units_from_past : (ns : Namespace) (rs : List LbaRange) (from : ℕ) → units_of ns ≤ from
-    → units_met_from ns (deallocation ns rs) from ≡ []
-units_from_past ns rs from past =
-    units_from_none ns (deallocation ns rs) from
-    (λ k low.
-    elim (cases_Bool (meets ns (deallocation ns rs) k)) [
-      | inl t ↦ absurd (omega (arith, met_below ns rs k t, past, low))
-      | inr f ↦ f
-    ])
-
--- what the lowest unit says of the units met
-pub known_of_lowest : (ns : Namespace) (rs : List LbaRange) (from : ℕ) (o : Option ℕ)
-    → IsLowest (meets ns (deallocation ns rs)) from o
-    → IfSome o (λ unit. unit < units_of ns)
-known_of_lowest ns rs from None lowest = tt
-known_of_lowest ns rs from (Some unit) lowest = met_below ns rs unit lowest.1
-
-pub first_of_lowest : (ns : Namespace) (rs : List LbaRange) (from : ℕ) (o : Option ℕ)
-    → IsLowest (meets ns (deallocation ns rs)) from o
-    → IfSome o (λ unit.
-    units_met_from ns (deallocation ns rs) from ≡ unit ∷ units_met_from ns (deallocation ns rs) (unit + 1))
-first_of_lowest ns rs from None lowest = tt
-first_of_lowest ns rs from (Some unit) lowest =
-    units_from_lowest ns (deallocation ns rs) from unit (met_below ns rs unit lowest.1) lowest
-
-pub none_of_lowest : (ns : Namespace) (rs : List LbaRange) (from : ℕ) (o : Option ℕ)
-    → IsLowest (meets ns (deallocation ns rs)) from o
-    → IfNone o (units_met_from ns (deallocation ns rs) from ≡ [])
-none_of_lowest ns rs from None lowest = units_from_none ns (deallocation ns rs) from lowest
-none_of_lowest ns rs from (Some unit) lowest = tt
 
 -- a unit is met only where the operation reaches an LBA of it
 not_met : (ns : Namespace) (op : Operation) (unit : ℕ)

@@ -1,11 +1,9 @@
 -- How the count of boundaries rises from LBA to LBA, and where it does.
-use Rattle.std.proofs.Common.{◌≡◌, ◌↔◌, inl, inr, ℕ, zero, suc, ◌+◌, ◌*◌, ◌-◌, ◌<◌, ◌≤◌, eqb, not, IsTrue, refl, sym, ◌∙◌, add-one, arith, min}
-use Rattle.std.specs.Bool.{OnFalse}
-use Rattle.std.proofs.lemmas.Bool.{cases_Bool, cases_lt, cases_eq, eq-eqb, ne_eqb, false≢true, OnFalse_from}
+use Rattle.std.proofs.Common.{◌≡◌, ◌↔◌, inl, inr, ℕ, zero, suc, ◌+◌, ◌*◌, ◌-◌, ◌<◌, ◌≤◌, add-one, arith, min}
+use Rattle.std.proofs.lemmas.Bool.{cases_Bool, cases_lt, cases_eq}
 use Rattle.std.proofs.Math.Nat.{lt_of_mul-lt-mul_right, mul-le-mul_right}
 use Rattle.nvm_geometry.specs.Namespace.{Namespace}
 use Rattle.nvm_geometry.specs.Boundaries.{IsBoundary, SharesUnit, Crosses, is_boundary, boundary_count, unit_number, units_of}
-use Rattle.nvm_geometry.specs.Limits.{LiesInUnit}
 use Rattle.nvm_geometry.proofs.BoundaryCount.{IsShift, is_placed, count_zero, count_at_boundary, count_elsewhere, is_boundary_sound, is_boundary_complete}
 
 -- one LBA further, the count is the same or one more
@@ -109,10 +107,6 @@ crosses_higher ns slba blocks some higher =
     let b = boundary_between ns slba (slba + blocks - 1) higher in
     record { lba = b.0; boundary = b.1; above = b.2; below = omega (arith, b.3) }
 
-pub higher_from_crosses : (ns : Namespace) (slba blocks : ℕ) → Crosses ns slba blocks → unit_number ns slba < unit_number ns (slba + blocks - 1)
-higher_from_crosses ns slba blocks c =
-    count_over_boundary ns.nabsn ns.nabo slba c.lba (slba + blocks - 1) c.boundary.k (omega (arith, c.boundary.exists)) c.boundary.form c.above (omega (arith, c.below))
-
 -- two LBAs share a unit exactly where they have one number
 pub same_number : (ns : Namespace) (a b : ℕ) → SharesUnit ns a b → unit_number ns a ≡ unit_number ns b
 same_number ns a b shares =
@@ -140,31 +134,6 @@ shares_from_number ns a b same lba boundary above below =
       | inl o ↦ omega (arith, same, count_over_boundary ns.nabsn ns.nabo a lba b boundary.k some boundary.form (omega (arith, above, o)) (omega (arith, below, o)))
       | inr o ↦ omega (arith, same, count_over_boundary ns.nabsn ns.nabo b lba a boundary.k some boundary.form (omega (arith, above, o)) (omega (arith, below, o)))
     ]
-
--- the test that compares the numbers of the first and the last LBA
-pub crosses_tested : (ns : Namespace) (slba blocks a b : ℕ) → 0 < blocks → a ≡ unit_number ns slba → b ≡ unit_number ns (slba + blocks - 1)
-    → IsTrue (not (eqb a b)) ↔ Crosses ns slba blocks
-crosses_tested ns slba blocks a b some low high =
-    elim (cases_eq a b) [
-      | inl same ↦ (
-        (λ t. absurd (false≢true (rw (eq-eqb a b same) at t))),
-        (λ x. absurd (omega (arith, same, low, high, higher_from_crosses ns slba blocks x))),
-      )
-      | inr other ↦ (
-        (λ _. crosses_higher ns slba blocks some
-            (omega (arith, other, low, high, count_rises ns.nabsn ns.nabo slba (slba + blocks - 1) (omega arith)))),
-        (λ _. rw (ne_eqb a b other) refl),
-      )
-    ]
-
-pub one_unit_tested : (ns : Namespace) (slba blocks a b : ℕ) → a ≡ unit_number ns slba → b ≡ unit_number ns (slba + blocks - 1)
-    → OnFalse (not (eqb a b)) (LiesInUnit ns slba blocks)
-one_unit_tested ns slba blocks a b low high =
-    OnFalse_from (not (eqb a b)) (LiesInUnit ns slba blocks)
-    (λ f. elim (cases_eq a b) [
-      | inl same ↦ shares_from_number ns slba (slba + blocks - 1) (omega (arith, same, low, high))
-      | inr other ↦ absurd (false≢true (sym f ∙ rw (ne_eqb a b other) refl))
-    ])
 
 -- the number rises by 1 at a boundary
 pub number_at_boundary : (ns : Namespace) (lba : ℕ) → IsBoundary ns (lba + 1) → unit_number ns (lba + 1) ≡ unit_number ns lba + 1
@@ -194,3 +163,12 @@ number_reached ns unit (suc last) known =
           let r = number_reached ns unit last (omega (arith, known, other, (count_next ns.nabsn ns.nabo last).1)) in
           (r.0, omega (arith, r.1), r.2)
     ]
+
+-- the first LBA up to which there are as many boundaries as a unit's number says, lies in the unit
+pub number_at_start : (ns : Namespace) (unit first : ℕ) → ((lba : ℕ) → (first ≤ lba) ↔ (unit ≤ unit_number ns lba)) → unit < units_of ns
+    → unit_number ns first ≡ unit
+number_at_start ns unit first from known =
+    let r = number_reached ns unit (ns.nsze - 1) (omega (arith, known)) in
+    let low = (from r.0).1 (omega (arith, r.2)) in
+    let high = (from first).0 (omega arith) in
+    omega (arith, count_rises ns.nabsn ns.nabo first r.0 low, r.2, high)

@@ -1,18 +1,14 @@
 -- A Deallocate of ranges that may lie anywhere in the namespace: NVM Command Set Specification, "Dataset Management
 -- command". The units are this project's own words for what lies between two boundaries.
-use Rattle.std.specs.Prelude.{ℕ, ◌+◌, ◌≤◌, nat_le, nat_lt, Bool, List, All, filter}
+use Rattle.std.specs.Prelude.{ℕ, ◌+◌, ◌≤◌, nat_le, List, All, filter}
 use Rattle.nvm_record.specs.declared.lba_range.LbaRange.{LbaRange}
 use Rattle.nvm_record.specs.Step.{Operation, deallocates}
 use Rattle.nvm_geometry.specs.Namespace.{Namespace}
-use Rattle.nvm_geometry.specs.Parts.{blocks_in, units_met}
+use Rattle.nvm_geometry.specs.Parts.{units_met}
 
 -- the Deallocate of these ranges, on all LBAs of the namespace
 abbrev pub deallocation : Namespace → List LbaRange → Operation
 deallocation ns ranges = record { first = 0; blocks = ns.nsze; deed = deallocates ranges }
-
--- the range has a block in the unit
-abbrev pub has_block : Namespace → LbaRange → ℕ → Bool
-has_block ns r unit = nat_lt 0 (blocks_in ns r.first r.blocks unit)
 
 -- No range ends above NSZE. One without a block ends where it begins.
 abbrev pub EndInNamespace : Namespace → List LbaRange → Type 0

@@ -1,9 +1,9 @@
-ghost use Rattle.std.specs.Prelude.{◌≡◌, ◌⊎◌, ◌↔◌, ℕ, ◌+◌, ◌-◌, ◌<◌, ◌≤◌, IsTrue, IfNone, IfOk, IfErr, IfSome};
+ghost use Rattle.std.specs.Prelude.{◌≡◌, ◌⊎◌, ◌↔◌, ◌+◌, ◌-◌, ◌<◌, ◌≤◌, IsTrue, IfOk, IfErr};
 ghost use Rattle.std.specs.Bool.{OnFalse};
 ghost use Rattle.nvm_record.specs.BlockSize.{IsBlockSize};
 ghost use Rattle.nvm_geometry.specs.Namespace.{namespace_of};
 ghost use Rattle.nvm_geometry.specs.Boundaries.{unit_number, units_of, Crosses};
-ghost use Rattle.nvm_geometry.specs.Limits.{LiesInUnit, IsWithinWriteLimit, IsWithinPairLimit};
+ghost use Rattle.nvm_geometry.specs.Limits.{IsWithinWriteLimit};
 ghost use Rattle.nvm_geometry.specs.Faults.{HasNoFault, IsFirstGeometryFault, IsValid, most_units};
 ghost use Rattle.nvm_geometry.specs.Place.{IsPlaceOf};
 ghost use Rattle.nvm_geometry.specs.declared.geometry_fault.GeometryFault.{GeometryFault as Fault};
@@ -27,32 +27,20 @@ pub const MOST_UNITS: u64 = 4096;
 /// memory.
 #[derive(Clone, Copy, Debug, PartialEq, Eq)]
 pub struct Geometry {
-    nsze: u64,
-    block_size: BlockSize,
-    nabsn: u16,
-    nabo: u16,
-    nawun: u16,
-    nacwu: u16,
+    large: LargeGeometry,
 }
 
 impl Model for Geometry {
-    ghost use Rattle.nvm_geometry.specs.Namespace.{Namespace, namespace_of};
+    ghost use Rattle.nvm_geometry.specs.Namespace.{Namespace};
     ghost use Rattle.nvm_geometry.specs.Faults.{IsValid};
 
     ghost Value = { Namespace };
 
-    ghost view = { λ g. namespace_of g.nsze g.block_size g.nabsn g.nabo g.nawun g.nacwu };
+    ghost view = { λ g. g.large };
 
-    ghost invariant = { λ g. IsValid (namespace_of g.nsze g.block_size g.nabsn g.nabo g.nawun g.nacwu) };
+    ghost invariant = { λ g. IsValid g.large };
 
-    ghost inverse = { λ ns. record {
-      nsze = ns.nsze;
-      block_size = ns.block_size;
-      nabsn = ns.nabsn;
-      nabo = ns.nabo;
-      nawun = ns.nawun;
-      nacwu = ns.nacwu;
-    } };
+    ghost inverse = { λ ns. record { large = ns } };
 }
 
 impl Geometry {
@@ -100,14 +88,15 @@ impl Geometry {
         if unit_at(nabsn, nabo, nsze - 1) + 1 > MOST_UNITS {
             return Err(GeometryFault::TooManyUnits);
         }
-        Ok(Geometry {
+        let large = LargeGeometry {
             nsze,
             block_size,
             nabsn,
             nabo,
             nawun,
             nacwu,
-        })
+        };
+        Ok(Geometry { large })
     }
 
     /// NSZE, the number of LBAs: 1 to 65,536.
@@ -115,7 +104,7 @@ impl Geometry {
         ensures value { result ≡ self.nsze }
         ensures valid { IsValid self }
     {
-        self.nsze
+        self.large.nsze()
     }
 
     /// How many bytes of data a block has.
@@ -123,35 +112,35 @@ impl Geometry {
         ensures value { result ≡ self.block_size }
         ensures valid { IsBlockSize result }
     {
-        self.block_size
+        self.large.block_size()
     }
 
     /// NABSN, the number of blocks from one boundary to the next, zeroes-based. 0 is no boundary.
     pub fn nabsn(self) -> u16
         ensures { result ≡ self.nabsn }
     {
-        self.nabsn
+        self.large.nabsn()
     }
 
     /// NABO, the LBA from which boundaries are counted: at most NABSN.
     pub fn nabo(self) -> u16
         ensures { result ≡ self.nabo }
     {
-        self.nabo
+        self.large.nabo()
     }
 
     /// NAWUN, the most blocks that a write within the limits has, zeroes-based.
     pub fn nawun(self) -> u16
         ensures { result ≡ self.nawun }
     {
-        self.nawun
+        self.large.nawun()
     }
 
     /// NACWU, the most blocks that a fused Compare and Write within the limits has, zeroes-based.
     pub fn nacwu(self) -> u16
         ensures { result ≡ self.nacwu }
     {
-        self.nacwu
+        self.large.nacwu()
     }
 
     /// How many units there are: 1 to 4,096.
@@ -159,7 +148,7 @@ impl Geometry {
         ensures value { result ≡ units_of self }
         ensures valid { result ≤ most_units }
     {
-        (unit_at(self.nabsn, self.nabo, self.nsze - 1) + 1) as u16
+        self.unit_of(self.nsze() - 1) + 1
     }
 
     /// The number of the unit in which an LBA below NSZE lies. It takes a constant number of steps.
@@ -168,7 +157,7 @@ impl Geometry {
         ensures value { result ≡ unit_number self lba }
         ensures valid { result < units_of self }
     {
-        unit_at(self.nabsn, self.nabo, lba) as u16
+        unit_at(self.nabsn(), self.nabo(), lba) as u16
     }
 
     /// The first LBA of a unit, and how many blocks it has. The last unit may be cut short by NSZE, and
@@ -177,12 +166,11 @@ impl Geometry {
         requires { unit < units_of self }
         ensures { IsPlaceOf self unit result.0 result.1 }
     {
-        if self.nabsn == 0 {
-            return (0, self.nsze as u32);
+        if self.nabsn() == 0 {
+            return self.large.unit_range(0);
         }
-        let first = unit_start(self.nabsn, self.nabo, u64::from(unit));
-        let next = unit_start(self.nabsn, self.nabo, u64::from(unit) + 1);
-        (first, (next.min(self.nsze) - first) as u32)
+        let first = unit_start(self.nabsn(), self.nabo(), u64::from(unit));
+        self.large.unit_range(first)
     }
 
     /// Whether a write of the range is within the advertised limits: inside one unit, and of at most
@@ -193,14 +181,14 @@ impl Geometry {
         ensures within { IsTrue result ↔ IsWithinWriteLimit self slba blocks }
         ensures beyond { OnFalse result ((self.nawun + 1 < blocks) ⊎ Crosses self slba blocks) }
     {
-        blocks <= u32::from(self.nawun) + 1 && self.large().lies_in_unit(slba, blocks)
+        blocks <= u32::from(self.nawun()) + 1 && self.large.lies_in_unit(slba, blocks)
     }
 
     /// Whether the range lies below NSZE, for any first LBA and any number of blocks, 0 too.
     pub fn in_range(self, slba: u64, blocks: u32) -> bool
         ensures { IsTrue result ↔ (slba + blocks ≤ self.nsze) }
     {
-        self.large().in_range(slba, blocks)
+        self.large.in_range(slba, blocks)
     }
 
     /// The same geometry, as one of any size.
@@ -208,13 +196,6 @@ impl Geometry {
     pub fn large(self) -> LargeGeometry
         ensures { result ≡ self }
     {
-        LargeGeometry {
-            nsze: self.nsze,
-            block_size: self.block_size,
-            nabsn: self.nabsn,
-            nabo: self.nabo,
-            nawun: self.nawun,
-            nacwu: self.nacwu,
-        }
+        self.large
     }
 }

@@ -1,7 +1,7 @@
 //! What holds of boundaries, units and parts by their definitions alone. Each law is a call that does
 //! nothing and whose contract is the law.
 
-ghost use Rattle.std.specs.Prelude.{◌≡◌, ◌≢◌, ◌==◌, ◌↔◌, ℕ, ◌+◌, ◌*◌, ◌-◌, ◌<◌, ◌≤◌, ◌&&◌, List, [], ◌∷◌, All, Contains, IsTrue, None, Some, false, length, map};
+ghost use Rattle.std.specs.Prelude.{◌≡◌, ◌≢◌, ◌==◌, ◌↔◌, ℕ, ◌+◌, ◌*◌, ◌<◌, ◌≤◌, ◌&&◌, List, [], ◌∷◌, All, Contains, IsTrue, false, length, map};
 ghost use Rattle.nvm_record.specs.Deeds.{is_look, is_read, is_pair, is_deallocate, IsOnRange, IsSingle};
 ghost use Rattle.nvm_record.specs.Medium.{Medium, HasBlockSize};
 ghost use Rattle.nvm_record.specs.Ranges.{ranges_have};
@@ -9,11 +9,10 @@ ghost use Rattle.nvm_record.specs.Status.{IsSuccess};
 ghost use Rattle.nvm_record.specs.Step.{HasData, HasRangesWithin, Deed, Operation, reads, block_at, is_in_range, reaches, medium_after, statuses_of, data_of};
 ghost use Rattle.nvm_record.specs.declared.lba_range.LbaRange.{LbaRange as Range};
 ghost use Rattle.nvm_geometry.specs.Boundaries.{IsBoundary, SharesUnit, unit_number, units_of};
-ghost use Rattle.nvm_geometry.specs.Deallocation.{EndInNamespace, deallocation, has_block, units_met_from};
+ghost use Rattle.nvm_geometry.specs.Deallocation.{EndInNamespace, deallocation, units_met_from};
 ghost use Rattle.nvm_geometry.specs.Faults.{HasNoFault, IsValid, most_units};
 ghost use Rattle.nvm_geometry.specs.Large.{IsLarge, region_of, regions_of, units_a_region};
 ghost use Rattle.nvm_geometry.specs.Limits.{LiesInUnit};
-ghost use Rattle.nvm_geometry.specs.Lowest.{IsLowest};
 ghost use Rattle.nvm_geometry.specs.Namespace.{Namespace};
 ghost use Rattle.nvm_geometry.specs.Parts.{meets, units_met, units_of_range, data_part, part_in, piece_in, pieces_of, AreInLine, IsInUnit};
 ghost use Rattle.nvm_geometry.specs.Place.{IsPlaceOf};
@@ -193,7 +192,7 @@ pub fn parts_are_the_whole()
 }
 
 /// A large namespace is kept as few regions, each of whole units: the number of an LBA's region is that of its unit, divided by how many units a
-/// region has. So what lies in one unit lies in one region. A region has a unit at least, and fewer than 2^32 blocks.
+/// region has. So what lies in one unit lies in one region. A region has a unit at least.
 pub fn regions_have_whole_units()
     ensures number { (ns : Namespace) (lba : ℕ) → IsLarge ns
         → unit_number (regions_of ns) lba ≡ region_of ns (unit_number ns lba) }

@@ -3,7 +3,6 @@
 #![tactic(auto)]
 
 mod boundaries;
-mod deallocation;
 mod geometry;
 mod geometry_fault;
 mod large_geometry;

@@ -69,16 +69,12 @@ impl Geometry {
         if unit >= self.units() {
             return None;
         }
-        let (start, count) = self.unit_range(unit);
-        let first = slba.max(start);
-        let past = (slba + u64::from(blocks)).min(start + u64::from(count));
-        if past <= first {
-            return None;
-        }
+        let (start, _) = self.unit_range(unit);
+        let (first, blocks) = self.large().piece_at(start, slba, blocks)?;
         Some(Piece {
             unit,
             first,
-            blocks: (past - first) as u32,
+            blocks,
         })
     }
 }

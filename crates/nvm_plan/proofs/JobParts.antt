@@ -1,151 +1,30 @@
 -- A job's part in a unit is that of its operation, and lies in the unit.
-use Rattle.std.proofs.Common.{◌≡◌, ◌↔◌, ℕ, ◌+◌, ◌*◌, ◌<◌, ◌≤◌, Bool, true, false, if◌then◌else◌, List, [], Option, Some, None, MatchOption, IfSome, IsSome, IsTrue, refl, sym, ap, subst, ◌∙◌, arith}
+use Rattle.std.proofs.Common.{◌≡◌, ℕ, ◌+◌, ◌*◌, ◌<◌, ◌≤◌, Bool, true, false, if◌then◌else◌, List, [], Option, Some, None, IsSome, IsTrue, refl, sym, ap, subst, ◌∙◌, arith}
 use Rattle.std.specs.List.{Contains}
 use Rattle.std.proofs.lemmas.Option.{same_Some, none-some}
 use Rattle.nvm_record.specs.declared.command.Command.{Command}
-use Rattle.nvm_record.specs.declared.op.Op.{Op}
-use Rattle.nvm_record.specs.declared.op.Op.TheVariants.{Write, Read, WriteUncorrectable, Compare, WriteZeroes, Dataset, Other}
+use Rattle.nvm_record.specs.declared.op.Op.TheVariants.{Dataset}
 use Rattle.nvm_record.specs.declared.status.Statuses.{Statuses}
-use Rattle.nvm_record.specs.Deeds.{IsOnRange}
-use Rattle.nvm_record.specs.Op.{carries_ranges}
 use Rattle.nvm_record.specs.Ranges.{ranges_of}
-use Rattle.nvm_record.specs.Step.{HasData, HasRangesWithin, Deed, Operation, writes, zeroes, uncorrectable, reads, compares, pairs}
-use Rattle.nvm_record.specs.declared.lba_range.LbaRange.{LbaRange}
+use Rattle.nvm_record.specs.Step.{HasData, HasRangesWithin, Operation}
 use Rattle.nvm_geometry.specs.Namespace.{Namespace}
 use Rattle.nvm_geometry.specs.Deallocation.{deallocation}
-use Rattle.nvm_geometry.specs.Parts.{meets, blocks_in, units_met, piece_in, part_in}
-use Rattle.nvm_geometry.specs.declared.piece.Piece.{Piece}
+use Rattle.nvm_geometry.specs.Parts.{meets, units_met, piece_in, part_in}
 use Rattle.nvm_store.specs.declared.place.Place.{Place}
 use Rattle.nvm_store.specs.Operation.{deallocate_operation}
 use Rattle.nvm_store.specs.Place.{IsCovered}
 use Rattle.nvm_plan.specs.UnitPlace.{IsUnitPlace}
 use Rattle.nvm_plan.specs.declared.job.Job.{Job}
-use Rattle.nvm_plan.specs.declared.lent_part.LentPart.{LentPart}
-use Rattle.nvm_plan.specs.LentPart.{part_operation_of}
 use Rattle.nvm_plan.specs.Checks.{refusal_of}
 use Rattle.nvm_plan.specs.JobPart.{unless_refused, ready_operation, units_of_ready, part_of_ready, job_units, job_part_in}
-use Rattle.nvm_plan.specs.Operation.{on_range, single_operation, fused_operation, job_operation_of}
-use Rattle.nvm_plan.specs.Profile.{is_in_profile}
-use Rattle.nvm_plan.specs.Ready.{LiesInNamespace, IsReadyPair}
+use Rattle.nvm_plan.specs.Operation.{single_operation, job_operation_of}
 
 if_true : (b : Bool) (x : Option Operation) → b ≡ true → (if b then x else None) ≡ x
 if_true b x e = rw e refl
 
-if_not : (b : Bool) (x : Option Operation) → (IsTrue b → ⊥) → (if b then x else None) ≡ None
-if_not true x h = absurd (h refl)
-if_not false x h = refl
-
 -- the part, where the operation meets the unit
 pub part_there : (ns : Namespace) (op : Operation) (unit : ℕ) → IsTrue (meets ns op unit) → part_of_ready ns (Some op) unit ≡ Some (part_in ns op unit)
 part_there ns op unit met = if_true _ _ met
-
--- no part, where it doesn't
-no_part : (ns : Namespace) (op : Operation) (unit : ℕ) → (IsTrue (meets ns op unit) → ⊥) → part_of_ready ns (Some op) unit ≡ None
-no_part ns op unit not_met = if_not _ _ not_met
-
--- An operation on a range meets the units in which its range has a block.
-abbrev pub MeetsByBlocks : Namespace → Type 0
-MeetsByBlocks ns = (op : Operation) (unit : ℕ) → IsOnRange op.deed → op.first + op.blocks ≤ ns.nsze → IsTrue (meets ns op unit) ↔ (0 < (part_in ns op unit).blocks)
-
-piece_there : (ns : Namespace) → MeetsByBlocks ns → (op : Operation) (unit : ℕ) (part : Operation) → IsOnRange op.deed → op.first + op.blocks ≤ ns.nsze
-    → 0 < blocks_in ns op.first op.blocks unit → part ≡ part_in ns op unit → part_of_ready ns (Some op) unit ≡ Some part
-piece_there ns by_blocks op unit part whole inside some same =
-    part_there ns op unit ((by_blocks op unit whole inside).1 some) ∙ ap (λ (o : Operation). Some o) (sym same)
-
-piece_not_there : (ns : Namespace) → MeetsByBlocks ns → (op : Operation) (unit : ℕ) → IsOnRange op.deed → op.first + op.blocks ≤ ns.nsze
-    → blocks_in ns op.first op.blocks unit ≡ 0 → part_of_ready ns (Some op) unit ≡ None
-piece_not_there ns by_blocks op unit whole inside none =
-    no_part ns op unit (λ met. let some : 0 < blocks_in ns op.first op.blocks unit = (by_blocks op unit whole inside).0 met in absurd (omega (arith, some, none)))
-
--- each other command of the profile stands for an operation on its range
-single_stands : (ns : Namespace) (o : Op) (c : Command) → IsTrue (is_in_profile o) → carries_ranges o ≡ false
-    → (deed : Deed) × IsOnRange deed × (single_operation ns o c ≡ Some (on_range c deed))
-single_stands ns Write c known plain = (writes c.payload, refl, refl)
-single_stands ns Read c known plain = (reads, refl, refl)
-single_stands ns WriteUncorrectable c known plain = (uncorrectable, refl, refl)
-single_stands ns Compare c known plain = (compares c.payload, refl, refl)
-single_stands ns WriteZeroes c known plain = (zeroes, refl, refl)
-single_stands ns (Dataset deallocate) c known plain = absurd (cc plain)
-single_stands ns (Other opcode) c known plain = absurd (cc known)
-
-pub not_dataset : (o : Op) → ((deallocate : Bool) → o ≡ Dataset deallocate → ⊥) → carries_ranges o ≡ false
-not_dataset Write other = refl
-not_dataset Read other = refl
-not_dataset WriteUncorrectable other = refl
-not_dataset Compare other = refl
-not_dataset WriteZeroes other = refl
-not_dataset (Dataset deallocate) other = absurd (other deallocate refl)
-not_dataset (Other opcode) other = refl
-
--- a command that has no ranges lies in the namespace by its range
-pub lies_on_range : (ns : Namespace) (o : Op) (c : Command) → carries_ranges o ≡ false → LiesInNamespace ns o c → c.slba + (c.nlb + 1) ≤ ns.nsze
-lies_on_range ns Write c plain h = h
-lies_on_range ns Read c plain h = h
-lies_on_range ns WriteUncorrectable c plain h = h
-lies_on_range ns Compare c plain h = h
-lies_on_range ns WriteZeroes c plain h = h
-lies_on_range ns (Dataset deallocate) c plain h = absurd (cc plain)
-lies_on_range ns (Other opcode) c plain h = h
-
-pub single_there : (ns : Namespace) → MeetsByBlocks ns → (c : Command) (unit : ℕ) (p : Piece) (part : Operation) → IsTrue (is_in_profile c.op) → carries_ranges c.op ≡ false
-    → c.slba + (c.nlb + 1) ≤ ns.nsze → p ≡ piece_in ns c.slba (c.nlb + 1) unit → 0 < p.blocks
-    → ((op : Operation) → p.first ≡ (piece_in ns c.slba (c.nlb + 1) unit).first → p.blocks ≡ (piece_in ns c.slba (c.nlb + 1) unit).blocks
-    → single_operation ns c.op c ≡ Some op → part ≡ part_in ns op unit)
-    → part_of_ready ns (single_operation ns c.op c) unit ≡ Some part
-single_there ns by_blocks c unit p part known plain inside is some all =
-    let stands = single_stands ns c.op c known plain in
-    let first = ap (λ (q : Piece). q.first) is in
-    let blocks = ap (λ (q : Piece). q.blocks) is in
-    ap (λ (o : Option Operation). part_of_ready ns o unit) stands.2
-    ∙ piece_there ns by_blocks (on_range c stands.0) unit part stands.1 inside (subst (λ (n : ℕ). 0 < n) blocks some) (all (on_range c stands.0) first blocks stands.2)
-
-pub single_not_there : (ns : Namespace) → MeetsByBlocks ns → (c : Command) (unit : ℕ) → IsTrue (is_in_profile c.op) → carries_ranges c.op ≡ false
-    → c.slba + (c.nlb + 1) ≤ ns.nsze → blocks_in ns c.slba (c.nlb + 1) unit ≡ 0 → part_of_ready ns (single_operation ns c.op c) unit ≡ None
-single_not_there ns by_blocks c unit known plain inside none =
-    let stands = single_stands ns c.op c known plain in
-    ap (λ (o : Option Operation). part_of_ready ns o unit) stands.2 ∙ piece_not_there ns by_blocks (on_range c stands.0) unit stands.1 inside none
-
-pair_stands : (ns : Namespace) (c d : Command) → IsReadyPair ns c d → fused_operation c.op d.op c d ≡ Some (on_range c (pairs c.payload d.payload))
-pair_stands ns c d ready = rw (ready.compare, ready.write) refl
-
-pub pair_there : (ns : Namespace) → MeetsByBlocks ns → (c d : Command) (unit : ℕ) (p : Piece) (part : Operation) → IsReadyPair ns c d
-    → p ≡ piece_in ns c.slba (c.nlb + 1) unit → 0 < p.blocks
-    → ((op : Operation) → p.first ≡ (piece_in ns c.slba (c.nlb + 1) unit).first → p.blocks ≡ (piece_in ns c.slba (c.nlb + 1) unit).blocks
-    → fused_operation c.op d.op c d ≡ Some op → part ≡ part_in ns op unit)
-    → part_of_ready ns (fused_operation c.op d.op c d) unit ≡ Some part
-pair_there ns by_blocks c d unit p part ready is some all =
-    let stands = pair_stands ns c d ready in
-    let first = ap (λ (q : Piece). q.first) is in
-    let blocks = ap (λ (q : Piece). q.blocks) is in
-    ap (λ (o : Option Operation). part_of_ready ns o unit) stands
-    ∙ piece_there ns by_blocks (on_range c (pairs c.payload d.payload)) unit part refl ready.range (subst (λ (n : ℕ). 0 < n) blocks some) (all _ first blocks stands)
-
-pub pair_not_there : (ns : Namespace) → MeetsByBlocks ns → (c d : Command) (unit : ℕ) → IsReadyPair ns c d
-    → blocks_in ns c.slba (c.nlb + 1) unit ≡ 0 → part_of_ready ns (fused_operation c.op d.op c d) unit ≡ None
-pair_not_there ns by_blocks c d unit ready none =
-    ap (λ (o : Option Operation). part_of_ready ns o unit) (pair_stands ns c d ready)
-    ∙ piece_not_there ns by_blocks (on_range c (pairs c.payload d.payload)) unit refl ready.range none
-
--- by the two laws: the units that an operation meets are those in which its part has a block, and those that pass the test
-pub meets_by_blocks : (ns : Namespace)
-    → ((op : Operation) (unit : ℕ) → IsOnRange op.deed → op.first + op.blocks ≤ ns.nsze → Contains (units_met ns op) unit ↔ (0 < (part_in ns op unit).blocks))
-    → ((op : Operation) (unit : ℕ) → op.first + op.blocks ≤ ns.nsze → Contains (units_met ns op) unit ↔ IsTrue (meets ns op unit)) → MeetsByBlocks ns
-meets_by_blocks ns met tested op unit whole inside =
-    let here = met op unit whole inside in
-    let test = tested op unit inside in
-    (λ h. here.0 (test.1 h), λ h. test.0 (here.1 h))
-
--- The part of a Deallocate in a unit of this place: its ranges, cut to the place.
-pub deallocate_there : (ns : Namespace) (ranges : List LbaRange) (unit first blocks : ℕ) → IsTrue (meets ns (deallocation ns ranges) unit)
-    → (first ≡ (piece_in ns 0 ns.nsze unit).first) × (blocks ≡ (piece_in ns 0 ns.nsze unit).blocks)
-    → part_of_ready ns (Some (deallocation ns ranges)) unit ≡ Some (deallocate_operation first blocks ranges)
-deallocate_there ns ranges unit first blocks met same =
-    part_there ns (deallocation ns ranges) unit met
-    ∙ ap (λ (o : Operation). Some o) (sym (ap (λ (n : ℕ). deallocate_operation n blocks ranges) same.0 ∙ ap (λ (n : ℕ). deallocate_operation (piece_in ns 0 ns.nsze unit).first n ranges) same.1))
-
-pub deallocate_not_there : (ns : Namespace) (ranges : List LbaRange) (unit : ℕ) → meets ns (deallocation ns ranges) unit ≡ false
-    → part_of_ready ns (Some (deallocation ns ranges)) unit ≡ None
-deallocate_not_there ns ranges unit e = no_part ns (deallocation ns ranges) unit (λ met. cc (met, e))
 
 -- what is known of a job that has a part in the unit
 pub record HasPart (ns : Namespace) (refused : Option Statuses) (stands : Option Operation) (unit : ℕ) (part : Operation) : Type 0 where
@@ -228,14 +107,6 @@ part_covered ns op part unit place is some size lies payload ranges =
       payload = subst (λ (n : ℕ). HasData ((part_in ns op unit).blocks * n) (part_in ns op unit).deed) (sym size) payload;
       ranges = ranges;
     })
-
--- what is borrowed of the part lies there, too
-pub lent_covered : (ns : Namespace) (job : Job) (unit : ℕ) (same : Option Operation) (lent : Option LentPart)
-    → ((part : Operation) → job_part_in ns job unit ≡ Some part → (place : Place) → IsUnitPlace ns unit place → IsCovered place part)
-    → job_part_in ns job unit ≡ same → MatchOption lent (same ≡ None) (λ part. same ≡ Some (part_operation_of part))
-    → IfSome lent (λ part. (place : Place) → IsUnitPlace ns unit place → IsCovered place (part_operation_of part))
-lent_covered ns job unit same None all is h = tt
-lent_covered ns job unit same (Some part) all is h = all (part_operation_of part) (is ∙ h)
 
 -- What is lent of a part that is there lies there, too.
 pub there_covered : (ns : Namespace) (job : Job) (unit : ℕ) (lent : Operation)

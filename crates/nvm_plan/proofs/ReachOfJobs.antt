@@ -1,5 +1,5 @@
 -- The units that a job's operation meets, by what it has to do with.
-use Rattle.std.proofs.Common.{◌≡◌, inl, ◌⊎◌, ℕ, ◌+◌, ◌<◌, ◌≤◌, Option, Some, None, IsSome, refl, ap, subst, ◌∙◌}
+use Rattle.std.proofs.Common.{◌≡◌, ℕ, ◌+◌, ◌≤◌, Option, Some, None, IsSome, refl, ap, subst, ◌∙◌}
 use Rattle.nvm_record.specs.Deeds.{IsOnRange}
 use Rattle.nvm_record.specs.Step.{Operation}
 use Rattle.nvm_geometry.specs.Namespace.{Namespace}
@@ -32,12 +32,6 @@ module _ (ns : Namespace) (job : Job) (reach : Reach) (stands : IsSome (job_oper
   range_inside first blocks e inside =
       let its = of (Range first blocks) e in
       rw (its.1, its.2) at (inside op is)
-
-  pub range_has_block : (first blocks : ℕ) → reach ≡ Range first blocks
-      → ((o : Operation) → job_operation_of ns job ≡ Some o → IsOnRange o.deed ⊎ (0 < ns.nsze) → 0 < o.blocks) → 0 < blocks
-  range_has_block first blocks e some =
-      let its = of (Range first blocks) e in
-      rw its.2 at (some op is (inl its.0))
 
   pub range_units : (first blocks : ℕ) → reach ≡ Range first blocks
       → ((o : Operation) → job_operation_of ns job ≡ Some o → job_units ns job ≡ units_met ns o)

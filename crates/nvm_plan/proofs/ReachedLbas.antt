@@ -1,10 +1,11 @@
 -- The lowest LBAs that a job reaches, range by range.
 use Rattle.std.proofs.Common.{◌≡◌, ℕ, ◌+◌, ◌^◌, ◌<◌, ◌≤◌, Bool, true, false, ◌&&◌, ◌||◌, List, [], ◌∷◌, ◌++◌, map, Option, Some, None, IsSome, inl, inr, refl, sym, ap, ◌∙◌, subst, arith}
-use Rattle.std.specs.Prelude.{All, IfNone, IfSome, filter, nat_le, nat_lt}
+use Rattle.std.specs.Prelude.{◌↔◌, All, Contains, IfNone, IfSome, IsTrue, filter, nat_le, nat_lt, unwrap_or}
 use Rattle.std.specs.List.{range_with_len}
 use Rattle.std.proofs.Math.Bool.{or_assoc}
 use Rattle.std.proofs.lemmas.Bool.{cases_Bool, cases_lt, or_cases, and_parts, and_from, ltb-true, le-leb, lt-ltb}
 use Rattle.std.proofs.lemmas.List.Elements.{All-head, All-tail}
+use Rattle.std.proofs.lemmas.Option.{same_Some}
 use Rattle.std.proofs.lemmas.List.FromFn.{get_or-map-range_with_len, length-map-range_with_len, map-range_with_len_more}
 use Rattle.nvm_record.specs.Deeds.{IsOnRange}
 use Rattle.nvm_record.specs.Ranges.{range_has, ranges_have, range_at, range_count, ranges_of}
@@ -15,13 +16,16 @@ use Rattle.nvm_geometry.specs.Namespace.{Namespace}
 use Rattle.nvm_geometry.specs.Boundaries.{unit_number}
 use Rattle.nvm_geometry.specs.Deallocation.{deallocation, units_met_from, EndInNamespace}
 use Rattle.nvm_geometry.specs.Lowest.{IsLowest}
-use Rattle.nvm_geometry.specs.Parts.{units_met}
+use Rattle.nvm_geometry.specs.Parts.{part_in, units_met}
+use Rattle.nvm_geometry.specs.Place.{IsPlaceOf}
 use Rattle.nvm_plan.specs.declared.job.Job.{Job}
 use Rattle.nvm_plan.specs.declared.reach.Reach.{Reach}
 use Rattle.nvm_plan.specs.declared.reach.Reach.TheVariants.{Range, Ranges}
-use Rattle.nvm_plan.specs.Inside.Reach.{IsReachOf, EndsLow, reach_has}
-use Rattle.nvm_plan.specs.JobPart.{job_units, job_units_from}
+use Rattle.nvm_plan.specs.Checks.{refusal_of}
+use Rattle.nvm_plan.specs.Inside.Reach.{AreFrom, IsReachOf, IsReachedFrom, EndsLow, reach_has}
+use Rattle.nvm_plan.specs.JobPart.{job_part_in, job_units}
 use Rattle.nvm_plan.specs.Operation.{job_operation_of}
+use Rattle.nvm_plan.proofs.JobParts.{some_part}
 use Rattle.nvm_plan.proofs.ReachOfJobs.{some_operation}
 
 -- ranges have an LBA where those before the last have it, or the last has
@@ -119,35 +123,35 @@ reach_ends_low ns (Ranges ranges) op is small inside fit =
 
 -- Of the units from `start` on, which are those of the LBAs from `from` on, the first is that of the lowest LBA which the operation reaches.
 first_met : (ns : Namespace) (op : Operation) (start from : ℕ) (o : Option ℕ) (units : List ℕ) → op.first + op.blocks ≤ ns.nsze
-    → ((x : ℕ) → from ≤ x → x < ns.nsze → start ≤ unit_number ns x)
-    → ((x : ℕ) → start ≤ unit_number ns x → x < ns.nsze → from ≤ x)
+    → AreFrom ns start from
     → ((lba : ℕ) → reaches op lba ≡ true → start ≤ unit_number ns lba
     → ((x : ℕ) → start ≤ unit_number ns x → x < lba → reaches op x ≡ false)
     → units_met_from ns op start ≡ unit_number ns lba ∷ units_met_from ns op (unit_number ns lba + 1))
     → (((x : ℕ) → start ≤ unit_number ns x → reaches op x ≡ false) → units_met_from ns op start ≡ [])
     → units ≡ units_met ns op → IsLowest (reaches op) from o
     → IfSome o (λ lba. filter (λ u. nat_le start u) units ≡ unit_number ns lba ∷ filter (λ u. nat_le (unit_number ns lba + 1) u) units)
-    × IfSome o (λ lba. lba < ns.nsze)
     × IfNone o (filter (λ u. nat_le start u) units ≡ [])
-first_met ns op start from None units inside to of first none is lowest = (
-  tt,
-  tt,
-  subst (λ (us : List ℕ). filter (λ u. nat_le start u) us ≡ []) (sym is) (none missed),
-)
+first_met ns op start from None units inside at first none is lowest =
+    (tt, subst (λ (us : List ℕ). filter (λ u. nat_le start u) us ≡ []) (sym is) (none missed))
   where
     missed : (x : ℕ) → start ≤ unit_number ns x → reaches op x ≡ false
     missed x above =
         elim (cases_Bool (reaches op x)) [
-          | inl t ↦ lowest x (of x above (reached_inside ns op x inside t))
+          | inl t ↦ lowest x ((at x (reached_inside ns op x inside t)).0 above)
           | inr f ↦ f
         ]
-first_met ns op start from (Some lba) units inside to of first none is lowest =
+first_met ns op start from (Some lba) units inside at first none is lowest =
     let below = reached_inside ns op lba inside lowest.1 in (
       subst (λ (us : List ℕ). filter (λ u. nat_le start u) us ≡ unit_number ns lba ∷ filter (λ u. nat_le (unit_number ns lba + 1) u) us) (sym is)
-          (first lba lowest.1 (to lba lowest.0 below) (λ x above under. lowest.2 x (of x above (omega (arith, under, below))) under)),
-      below,
+          (first lba lowest.1 ((at lba below).1 lowest.0) (λ x above under. lowest.2 x ((at x (omega (arith, under, below))).0 above) under)),
       tt,
     )
+
+-- the lowest LBA that an operation in the namespace reaches lies in it
+lowest_inside : (ns : Namespace) (op : Operation) (from : ℕ) (o : Option ℕ) → op.first + op.blocks ≤ ns.nsze → IsLowest (reaches op) from o
+    → IfSome o (λ lba. lba < ns.nsze)
+lowest_inside ns op from None inside lowest = tt
+lowest_inside ns op from (Some lba) inside lowest = reached_inside ns op lba inside lowest.1
 
 -- what is known of a job to which no check applies
 module _ (ns : Namespace) (job : Job) (reach : Reach) (stands : IsSome (job_operation_of ns job))
@@ -164,33 +168,40 @@ module _ (ns : Namespace) (job : Job) (reach : Reach) (stands : IsSome (job_oper
   pub ends_low : ns.nsze ≤ 2 ^ 40 → EndsLow reach
   ends_low small = reach_ends_low ns reach op (reached op is) small (inside op is) (λ rs e. (fit op rs is e).1)
 
-  pub first_of_job : (start from : ℕ) (o : Option ℕ)
-      → ((x : ℕ) → from ≤ x → x < ns.nsze → start ≤ unit_number ns x)
-      → ((x : ℕ) → start ≤ unit_number ns x → x < ns.nsze → from ≤ x)
+  lowest_of_job : (from : ℕ) (o : Option ℕ) → IsLowest (reach_has reach) from o
+      → (q : Operation) → job_operation_of ns job ≡ Some q → IsLowest (reaches q) from o
+  lowest_of_job from o lowest q q_is =
+      lowest_agree (reach_has reach) (reaches q) from o
+      (λ k. sym (reach_reached ns reach q (reached q q_is) (λ rs e. (fit q rs q_is e).1) k)) lowest
+
+  pub reached_from : (from : ℕ) (o : Option ℕ)
       → ((q : Operation) (begin lba : ℕ) → q.first + q.blocks ≤ ns.nsze → reaches q lba ≡ true → begin ≤ unit_number ns lba
       → ((x : ℕ) → begin ≤ unit_number ns x → x < lba → reaches q x ≡ false)
       → units_met_from ns q begin ≡ unit_number ns lba ∷ units_met_from ns q (unit_number ns lba + 1))
       → ((q : Operation) (begin : ℕ) → q.first + q.blocks ≤ ns.nsze
       → ((x : ℕ) → begin ≤ unit_number ns x → reaches q x ≡ false) → units_met_from ns q begin ≡ [])
       → ((q : Operation) → job_operation_of ns job ≡ Some q → job_units ns job ≡ units_met ns q)
-      → IsLowest (reach_has reach) from o
-      → IfSome o (λ lba. job_units_from ns job start ≡ unit_number ns lba ∷ job_units_from ns job (unit_number ns lba + 1))
-      × IfSome o (λ lba. lba < ns.nsze)
-      × IfNone o (job_units_from ns job start ≡ [])
-  first_of_job start from o to of first none units lowest =
-      first_met ns op start from o (job_units ns job) (inside op is) to of (λ lba. first op start lba (inside op is)) (none op start (inside op is))
-      (units op is)
-      (lowest_agree (reach_has reach) (reaches op) from o
-      (λ k. sym (reach_reached ns reach op (reached op is) (λ rs e. (fit op rs is e).1) k)) lowest)
+      → IsLowest (reach_has reach) from o → IsReachedFrom ns job from o
+  reached_from from o first none units lowest =
+      let lowest_is = lowest_of_job from o lowest op is in
+      let met = λ (start : ℕ) (at : AreFrom ns start from).
+      first_met ns op start from o (job_units ns job) (inside op is) at (λ lba. first op start lba (inside op is)) (none op start (inside op is))
+      (units op is) lowest_is in
+      record {
+        lowest = lowest_of_job from o lowest;
+        known = lowest_inside ns op from o (inside op is) lowest_is;
+        first = λ start at. (met start at).0;
+        none = λ start at. (met start at).1;
+      }
 
 -- behind the unit of an LBA are the LBAs from its end on
 module _ (ns : Namespace) (lba end : ℕ) (rises : (a b : ℕ) → a ≤ b → unit_number ns a ≤ unit_number ns b)
     (next : end < ns.nsze → unit_number ns end ≡ unit_number ns lba + 1)
     (lies : (x : ℕ) → lba ≤ x → x < end → unit_number ns x ≡ unit_number ns lba) where
-  pub behind_end : (x : ℕ) → end ≤ x → x < ns.nsze → unit_number ns lba + 1 ≤ unit_number ns x
+  behind_end : (x : ℕ) → end ≤ x → x < ns.nsze → unit_number ns lba + 1 ≤ unit_number ns x
   behind_end x from below = omega (arith, rises end x from, next (omega (arith, from, below)))
 
-  pub end_before : (x : ℕ) → unit_number ns lba + 1 ≤ unit_number ns x → end ≤ x
+  end_before : (x : ℕ) → unit_number ns lba + 1 ≤ unit_number ns x → end ≤ x
   end_before x above =
       elim (cases_lt x end) [
         | inl l ↦
@@ -200,3 +211,57 @@ module _ (ns : Namespace) (lba end : ℕ) (rises : (a b : ℕ) → a ≤ b → u
             ]
         | inr h ↦ h
       ]
+
+  pub from_end : AreFrom ns (unit_number ns lba + 1) end
+  from_end x below = (end_before x, (λ from. behind_end x from below))
+
+-- from unit 0 on are all LBAs
+pub from_first : (ns : Namespace) → AreFrom ns 0 0
+from_first ns x below = ((λ _. omega arith), (λ _. omega arith))
+
+-- A job has a part in a unit exactly where the lowest LBA that it reaches from the unit's first on lies there.
+module _ (ns : Namespace) (job : Job) (unit : ℕ) (stands : IsSome (job_operation_of ns job))
+    (inside : (op : Operation) → job_operation_of ns job ≡ Some op → op.first + op.blocks ≤ ns.nsze)
+    (met : (op : Operation) → op.first + op.blocks ≤ ns.nsze
+    → Contains (units_met ns op) unit ↔ ((lba : ℕ) × IsTrue (reaches op lba) × (unit_number ns lba ≡ unit)))
+    (part : (op : Operation) → job_operation_of ns job ≡ Some op → Contains (units_met ns op) unit → job_part_in ns job unit ≡ Some (part_in ns op unit))
+    (known : (part : Operation) → job_part_in ns job unit ≡ Some part
+    → (refusal_of ns job ≡ None) × (op : Operation) × (job_operation_of ns job ≡ Some op) × Contains (units_met ns op) unit × (part ≡ part_in ns op unit)) where
+  abbrev whole : (op : Operation) × (job_operation_of ns job ≡ Some op)
+  whole = some_operation (job_operation_of ns job) stands
+
+  part_by_lba : (lba : ℕ) → IsTrue (reaches whole.0 lba) → unit_number ns lba ≡ unit → IsSome (job_part_in ns job unit)
+  part_by_lba lba has here = rw (part whole.0 whole.1 ((met whole.0 (inside whole.0 whole.1)).1 (lba, has, here))) refl
+
+  lba_of_part : (first blocks : ℕ) → IsPlaceOf ns unit first blocks → IsSome (job_part_in ns job unit)
+      → (lba : ℕ) × IsTrue (reaches whole.0 lba) × (first ≤ lba) × (lba < first + blocks)
+  lba_of_part first blocks place there =
+      let its = some_part (job_part_in ns job unit) there in
+      let is = known its.0 its.1 in
+      let same = same_Some _ _ (sym is.2 ∙ whole.1) in
+      let found = (met whole.0 (inside whole.0 whole.1)).0 (subst (λ (op : Operation). Contains (units_met ns op) unit) same is.3) in
+      let at = place.whole found.0 (reached_inside ns whole.0 found.0 (inside whole.0 whole.1) found.1) found.2 in
+      (found.0, found.1, at.0, at.1)
+
+  by_lowest : (first blocks : ℕ) (o : Option ℕ) → IsPlaceOf ns unit first blocks → IsLowest (reaches whole.0) first o
+      → IsTrue (nat_lt (unwrap_or o (first + blocks)) (first + blocks)) ↔ IsSome (job_part_in ns job unit)
+  by_lowest first blocks None place lowest = (
+    (λ below. absurd (omega (arith, ltb-true _ _ below))),
+    (λ there.
+        let found = lba_of_part first blocks place there in
+        absurd (cc (found.1, lowest found.0 found.2))),
+  )
+  by_lowest first blocks (Some lba) place lowest = (
+    (λ below. part_by_lba lba lowest.1 (place.lies lba lowest.0 (ltb-true _ _ below))),
+    (λ there.
+        let found = lba_of_part first blocks place there in
+        elim (cases_lt found.0 lba) [
+          | inl below ↦ absurd (cc (found.1, lowest.2 found.0 found.2 below))
+          | inr above ↦ lt-ltb lba (first + blocks) (omega (arith, found.3, above))
+        ]),
+  )
+
+  pub part_by_lowest : (first blocks : ℕ) (o : Option ℕ) → IsPlaceOf ns unit first blocks
+      → ((op : Operation) → job_operation_of ns job ≡ Some op → IsLowest (reaches op) first o)
+      → IsTrue (nat_lt (unwrap_or o (first + blocks)) (first + blocks)) ↔ IsSome (job_part_in ns job unit)
+  part_by_lowest first blocks o place lowest = by_lowest first blocks o place (lowest whole.0 whole.1)

@@ -58,8 +58,7 @@ pub fn only_part<'a>(
     ready_jobs();
     parts_of_jobs();
     jobs_that_fit_have_their_data();
-    let part = ready_part(geometry, fields, payload, compared)?;
-    Some(part)
+    ready_part(geometry, fields, payload, compared)
 }
 
 /// All that a job asks for, where no check refuses it and its range lies in one unit. It may be `None` all the same; as it is written it is so for a

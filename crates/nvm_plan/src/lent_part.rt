@@ -2,29 +2,26 @@ ghost use Rattle.std.specs.Prelude.{ℕ, ◌≡◌, ◌+◌, ◌-◌, ◌*◌, �
 ghost use Rattle.nvm_record.specs.Entry.{IsWhole};
 ghost use Rattle.nvm_record.specs.Op.{carries_ranges};
 ghost use Rattle.nvm_record.specs.PayloadRef.{lent_bytes};
-ghost use Rattle.nvm_record.specs.Ranges.{ranges_of};
 ghost use Rattle.nvm_record.specs.Step.{Operation};
 ghost use Rattle.nvm_record.specs.declared.op.Op.TheVariants.{Compare, Write};
-ghost use Rattle.nvm_geometry.specs.Boundaries.{unit_number, units_of};
-ghost use Rattle.nvm_geometry.specs.Deallocation.{deallocation, EndInNamespace};
+ghost use Rattle.nvm_geometry.specs.Boundaries.{unit_number};
 ghost use Rattle.nvm_geometry.specs.Namespace.{Namespace};
 ghost use Rattle.nvm_geometry.specs.Parts.{data_part, part_in, piece_in};
 ghost use Rattle.nvm_store.specs.declared.place.Place.{Place as UnitPlace};
 ghost use Rattle.nvm_store.specs.Place.{IsCovered};
 ghost use Rattle.nvm_plan.specs.UnitPlace.{IsUnitPlace};
-ghost use Rattle.nvm_plan.specs.Fits.{FitsNamespace, IsWholeBody};
+ghost use Rattle.nvm_plan.specs.Fits.{FitsNamespace};
 ghost use Rattle.nvm_plan.specs.JobPart as spec;
-ghost use Rattle.nvm_plan.specs.JobPart.{part_of_ready};
 ghost use Rattle.nvm_plan.specs.LentPart.{part_operation_of};
-ghost use Rattle.nvm_plan.specs.Operation.{single_operation, fused_operation, operation_of_body};
+ghost use Rattle.nvm_plan.specs.Operation.{single_operation, fused_operation};
 ghost use Rattle.nvm_plan.specs.Profile.{is_in_profile};
-ghost use Rattle.nvm_plan.specs.Ready.{IsReadyBody};
 
 use crate::checks::plan;
 use crate::decision::Plan;
 use crate::job::{Body, Job};
 use crate::laws::{parts_of_jobs, ready_jobs};
-use crate::reach::{Reach, deallocated, reach_of};
+use crate::reach::deallocated;
+use crate::reached::has_part;
 use nvm_geometry::{Geometry, LargeGeometry, laws};
 use nvm_record::{BlockSize, Command, Op, PayloadRef};
 use nvm_store::{ActRef, Look};
@@ -76,7 +73,12 @@ pub fn job_part_in<'a>(geometry: &Geometry, job: &'a Job, unit: u16) -> Option<L
     parts_of_jobs();
     match plan(geometry, job) {
         Plan::Refused(_) => None,
-        Plan::Ready => body_part(*geometry, &job.body, unit),
+        Plan::Ready => {
+            if !has_part(geometry, job, unit) {
+                return None;
+            }
+            Some(job_part_there(geometry, job, unit))
+        }
     }
 }
 
@@ -90,70 +92,9 @@ pub fn job_part_there<'a>(geometry: &Geometry, job: &'a Job, unit: u16) -> LentP
         → IsCovered place (part_operation_of result) }
 {
     laws::units_met_are_those_reached();
-    ready_jobs();
     parts_of_jobs();
-    match reach_of(&job.body) {
-        Reach::Ranges(ranges) => deallocate_in(*geometry, ranges, unit),
-        Reach::Range { .. } => match body_part(*geometry, &job.body, unit) {
-            Some(part) => part,
-            None => unreachable!("the job has a part in this unit"),
-        },
-    }
-}
-
-/// The part of a job's commands in a unit.
-fn body_part<'a>(geometry: Geometry, body: &'a Body, unit: u16) -> Option<LentPart<'a>>
-    requires ready { IsReadyBody geometry body.now }
-    requires whole { IsWholeBody geometry.block_size body.now }
-    ensures { MatchOption result (part_of_ready geometry (operation_of_body geometry body.now) unit ≡ None)
-        (λ part. part_of_ready geometry (operation_of_body geometry body.now) unit ≡ Some (part_operation_of part)) }
-{
-    laws::units_met_are_those_reached();
-    laws::whole_ranges_are_reached();
-    match body {
-        Body::Single(command) => {
-            if let Op::Dataset { deallocate } = command.op {
-                return ranges_part(geometry, deallocated(command, deallocate), unit);
-            }
-            let piece = geometry.piece_in(unit, command.slba, u32::from(command.nlb) + 1)?;
-            let size = geometry.block_size();
-            Some(single_part(size, command, piece.first, piece.blocks))
-        }
-        Body::Pair(compare, write) => {
-            let piece = geometry.piece_in(unit, compare.slba, u32::from(compare.nlb) + 1)?;
-            let size = geometry.block_size();
-            Some(pair_part(size, compare, write, piece.first, piece.blocks))
-        }
-    }
-}
-
-/// The part of a Deallocate of these ranges in a unit.
-fn ranges_part<'a>(geometry: Geometry, ranges: PayloadRef<'a>, unit: u16) -> Option<LentPart<'a>>
-    requires { EndInNamespace geometry (ranges_of (lent_bytes ranges)) }
-    ensures { MatchOption result
-        (part_of_ready geometry (Some (deallocation geometry (ranges_of (lent_bytes ranges.entry)))) unit ≡ None)
-        (λ part. part_of_ready geometry (Some (deallocation geometry (ranges_of (lent_bytes ranges.entry)))) unit
-        ≡ Some (part_operation_of part)) }
-{
-    if geometry.next_met(ranges.as_slice(), unit)? != unit {
-        return None;
-    }
-    Some(deallocate_in(geometry, ranges, unit))
-}
-
-/// The part of a Deallocate of these ranges in a unit that they meet.
-fn deallocate_in<'a>(geometry: Geometry, ranges: PayloadRef<'a>, unit: u16) -> LentPart<'a>
-    requires { unit < units_of geometry }
-    ensures { part_operation_of result
-        ≡ part_in geometry (deallocation geometry (ranges_of (lent_bytes ranges.entry))) unit }
-{
-    laws::each_unit_has_one_place();
-    let (first, blocks) = geometry.unit_range(unit);
-    LentPart::Act(ActRef::Deallocate {
-        first,
-        blocks,
-        ranges,
-    })
+    let (first, _) = geometry.unit_range(unit);
+    part_at(&geometry.large(), job, first)
 }
 
 /// What [`job_part_there`] gives, on a namespace of any size, in the unit in which this LBA lies.

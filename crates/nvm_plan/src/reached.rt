@@ -1,16 +1,16 @@
 //! The LBAs at which the parts of a job begin, on a namespace of any size.
-ghost use Rattle.std.specs.Prelude.{◌≡◌, ◌+◌, ◌<◌, ◌≤◌, ◌^◌, ◌||◌, ℕ, Bool, [], ◌∷◌, All, IfNone, IfSome, None};
+ghost use Rattle.std.specs.Prelude.{◌≡◌, ◌+◌, ◌<◌, ◌≤◌, ◌^◌, ◌||◌, ◌↔◌, ℕ, Bool, [], ◌∷◌, All, IfNone, IfSome, IsSome, IsTrue, None};
 ghost use Rattle.nvm_record.specs.Ranges.{range_has, ranges_have, ranges_of};
 ghost use Rattle.nvm_geometry.specs.Boundaries.{unit_number};
 ghost use Rattle.nvm_geometry.specs.Lowest.{IsLowest};
 ghost use Rattle.nvm_plan.specs.Checks.{refusal_of};
-ghost use Rattle.nvm_plan.specs.Inside.Reach.{EndsLow, reach_has};
-ghost use Rattle.nvm_plan.specs.JobPart.{job_units_from};
+ghost use Rattle.nvm_plan.specs.Inside.Reach.{EndsLow, IsReachedFrom, reach_has};
+ghost use Rattle.nvm_plan.specs.JobPart.{job_part_in, job_units_from};
 
 use crate::job::Job;
 use crate::laws::{parts_of_jobs, ready_jobs};
 use crate::reach::{Reach, reach_of};
-use nvm_geometry::{LargeGeometry, laws};
+use nvm_geometry::{Geometry, LargeGeometry, laws};
 use nvm_record::{LbaRange, range_count};
 
 /// The lowest LBA that a job reaches, where no check applies to the job: its first part is in that LBA's unit. It is `None` where the job has no part.
@@ -22,13 +22,7 @@ pub fn first_reached(geometry: &LargeGeometry, job: &Job) -> Option<u64>
     ensures known { IfSome result (λ lba. lba < geometry.now.nsze) }
     ensures none { IfNone result (job_units_from geometry.now job.now 0 ≡ []) }
 {
-    laws::the_lowest_lba_is_met_first();
-    ready_jobs();
-    parts_of_jobs();
-
-    // For the proof alone: how large the namespace can be.
-    let _nsze = geometry.nsze();
-    lowest_reached(reach_of(&job.body), 0)
+    reached_from(geometry, job, 0)
 }
 
 /// The lowest LBA that a job reaches behind the unit in which this LBA lies, where no check applies to the job: its next part is in that LBA's unit. It
@@ -41,14 +35,39 @@ pub fn next_reached(geometry: &LargeGeometry, job: &Job, lba: u64) -> Option<u64
     ensures known { IfSome result (λ next. next < geometry.now.nsze) }
     ensures none { IfNone result (job_units_from geometry.now job.now (unit_number geometry.now lba + 1) ≡ []) }
 {
-    laws::the_lowest_lba_is_met_first();
     laws::units_number_the_namespace();
+    reached_from(geometry, job, geometry.unit_end(lba))
+}
+
+/// Whether a job has a part in a unit, where no check applies to the job. It has none where no unit has that number.
+pub(crate) fn has_part(geometry: &Geometry, job: &Job, unit: u16) -> bool
+    requires { refusal_of geometry.now job.now ≡ None }
+    ensures { IsTrue result ↔ IsSome (job_part_in geometry.now job.now unit) }
+{
+    laws::units_met_are_those_reached();
+    ready_jobs();
+    parts_of_jobs();
+    if unit >= geometry.units() {
+        return false;
+    }
+    let (first, blocks) = geometry.unit_range(unit);
+    let found = reached_from(&geometry.large(), job, first);
+    let end = first + u64::from(blocks);
+    found.unwrap_or(end) < end
+}
+
+/// The lowest LBA from `from` on that a job reaches, where no check applies to the job.
+fn reached_from(geometry: &LargeGeometry, job: &Job, from: u64) -> Option<u64>
+    requires { refusal_of geometry.now job.now ≡ None }
+    ensures { IsReachedFrom geometry.now job.now from result }
+{
+    laws::the_lowest_lba_is_met_first();
     ready_jobs();
     parts_of_jobs();
 
     // For the proof alone: how large the namespace can be.
     let _nsze = geometry.nsze();
-    lowest_reached(reach_of(&job.body), geometry.unit_end(lba))
+    lowest_reached(reach_of(&job.body), from)
 }
 
 /// The lowest LBA from `from` on that a job's operation reaches.

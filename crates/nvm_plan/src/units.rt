@@ -8,7 +8,8 @@ use crate::decision::Plan;
 use crate::job::Job;
 use crate::laws::{parts_of_jobs, ready_jobs};
 use crate::reach::{Reach, reach_of};
-use nvm_geometry::{Geometry, Parts, laws};
+use crate::reached::{first_reached, next_reached};
+use nvm_geometry::{Geometry, laws};
 use std::marker::Model;
 
 /// The numbers of the units in which a job has a part, ascending: what [`job_units`] gives.
@@ -17,33 +18,21 @@ use std::marker::Model;
 /// memory. A contract sees it as the list of the numbers that are left.
 #[derive(Debug, Drop)]
 pub struct JobUnits<'a> {
-    left: Left<'a>,
-}
-
-/// What is left of the units.
-#[derive(Debug, Drop)]
-pub enum Left<'a> {
-    /// None.
-    Nothing,
-    /// Those of these pieces of a range.
-    Pieces(Parts),
-    /// Of those from `from` on the ones in which a range has a block.
-    Ranges {
-        geometry: Geometry,
-        ranges: &'a [u8],
-        from: u16,
-    },
+    geometry: Geometry,
+    job: &'a Job,
+    /// The lowest LBA that the job reaches in the units that are left.
+    next: Option<u64>,
 }
 
 impl<'a> Model for JobUnits<'a> {
     ghost use Rattle.std.specs.Prelude.{List, ℕ};
-    ghost use Rattle.nvm_plan.specs.Inside.UnitsLeft.{units_left, LieInNamespace};
+    ghost use Rattle.nvm_plan.specs.Inside.UnitsLeft.{units_left, IsFoundIn};
 
     ghost Value = { List ℕ };
 
-    ghost view = { λ units. units_left units.left };
+    ghost view = { λ units. units_left units.geometry units.job.now units.next };
 
-    ghost invariant = { λ units. LieInNamespace units.left };
+    ghost invariant = { λ units. IsFoundIn units.geometry units.job.now units.next };
 }
 
 /// The numbers of the units in which a job has a part, ascending. There are none where a check refuses the job, and
@@ -54,7 +43,9 @@ pub fn job_units<'a>(geometry: &Geometry, job: &'a Job) -> JobUnits<'a>
     parts_of_jobs();
     match plan(geometry, job) {
         Plan::Refused(_) => JobUnits {
-            left: Left::Nothing,
+            geometry: *geometry,
+            job,
+            next: None,
         },
         Plan::Ready => ready_job_units(geometry, job),
     }
@@ -66,22 +57,13 @@ pub fn ready_job_units<'a>(geometry: &Geometry, job: &'a Job) -> JobUnits<'a>
     requires { refusal_of geometry.now job.now ≡ None }
     ensures { result ≡ spec.job_units geometry.now job.now }
 {
-    laws::pieces_stand_in_line();
-    laws::whole_ranges_are_reached();
     laws::ranges_meet_their_units();
     ready_jobs();
     parts_of_jobs();
-    match reach_of(&job.body) {
-        Reach::Range { first, blocks } => JobUnits {
-            left: Left::Pieces(geometry.parts(first, blocks)),
-        },
-        Reach::Ranges(ranges) => JobUnits {
-            left: Left::Ranges {
-                geometry: *geometry,
-                ranges: ranges.as_slice(),
-                from: 0,
-            },
-        },
+    JobUnits {
+        geometry: *geometry,
+        job,
+        next: first_reached(&geometry.large(), job),
     }
 }
 
@@ -105,12 +87,17 @@ pub fn ready_part_count(geometry: &Geometry, job: &Job) -> u16
     ensures value { result ≡ length (spec.job_units geometry.now job.now) }
     ensures valid { result ≤ units_of geometry.now }
 {
+    laws::units_met_are_those_reached();
     laws::whole_ranges_are_reached();
     ready_jobs();
     parts_of_jobs();
     match reach_of(&job.body) {
         Reach::Range { first, blocks } => geometry.piece_count(first, blocks),
-        Reach::Ranges(ranges) => geometry.met_count(ranges.as_slice()),
+        Reach::Ranges(_) => {
+            // For the proof alone: how many units there can be.
+            let _units = geometry.units();
+            ready_job_units(geometry, job).count() as u16
+        }
     }
 }
 
@@ -124,22 +111,8 @@ impl<'a> Iterator for JobUnits<'a> {
     ghost remaining = { item_count (λ units. units) };
 
     fn next(&mut self) -> Option<u16> {
-        match &mut self.left {
-            Left::Nothing => None,
-            Left::Pieces(pieces) => {
-                let piece = pieces.next()?;
-                Some(piece.unit)
-            }
-            Left::Ranges {
-                geometry,
-                ranges,
-                from,
-            } => {
-                let _units = geometry.units();
-                let unit = geometry.next_met(ranges, *from)?;
-                *from = unit + 1;
-                Some(unit)
-            }
-        }
+        let lba = self.next?;
+        self.next = next_reached(&self.geometry.large(), self.job, lba);
+        Some(self.geometry.unit_of(lba))
     }
 }

@@ -2,12 +2,7 @@ use Rattle.std.proofs.Common.{arith}
 use Rattle.nvm_geometry.proofs.UnitOrder.{unit_below}
 use Rattle.nvm_geometry.proofs.geometry.Geometry.unit_of.Goals as goal
 
-pub overflow_cast-result : goal.overflow_cast-result
-overflow_cast-result c =
-    let below = rw (← c.self.view_is) at (unit_below c.args.self c.args.lba c.requires) in
-    omega (arith, below, c.unit_at.ensures.value, c.self.invariant.units)
-
 pub returns-clause-valid : goal.returns-clause-valid
 returns-clause-valid c =
-    let below = rw (← c.self.view_is) at (unit_below c.args.self c.args.lba c.requires) in
-    rw (← c.self.view_is) (omega (arith, below, c.unit_at.ensures.value))
+    let is = rw (c.nabsn.ensures, c.nabo.ensures) at c.unit_at.ensures.value in
+    omega (arith, unit_below c.args.self c.args.lba c.requires, is)

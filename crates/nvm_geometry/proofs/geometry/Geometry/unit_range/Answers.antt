@@ -1,22 +1,20 @@
-use Rattle.std.proofs.Common.{◌<◌, min, arith}
-use Rattle.nvm_geometry.proofs.UnitOrder.{range_some}
-use Rattle.nvm_geometry.proofs.UnitPlaces.{place_from_starts, place_of_all}
+use Rattle.std.proofs.Common.{◌≡◌, ℕ, ◌-◌, subst, arith}
+use Rattle.nvm_geometry.specs.Boundaries.{unit_number}
+use Rattle.nvm_geometry.specs.Place.{IsPlaceOf}
+use Rattle.nvm_geometry.proofs.UnitOrder.{count_none, number_at_start}
 use Rattle.nvm_geometry.proofs.geometry.Geometry.unit_range.Goals as goal
 
-pub returns-then-self-eq0 : goal.returns-then-self-eq0
-returns-then-self-eq0 c =
-    rw (← c.self.view_is) (place_of_all _ c.args.unit c.if-self-eq0.true c.self.invariant.some (rw (← c.self.view_is) at c.requires))
-
-pub overflow_sub-result : goal.overflow_sub-result
-overflow_sub-result c =
-    let below = rw (← c.self.view_is) at c.requires in
-    let some : c.unit_start-first.result < min c.unit_start-next.result c.self.inside.nsze =
-    range_some c.self.inside.nabsn c.self.inside.nabo c.args.unit c.unit_start-first.result c.unit_start-next.result c.self.inside.nsze
-    (rw c.from.ensures at c.unit_start-first.ensures) (rw c.from-2.ensures at c.unit_start-next.ensures) c.self.invariant.some below in
-    omega (arith, some, c.min.ensures)
+pub returns-then-nabsn-eq0 : goal.returns-then-nabsn-eq0
+returns-then-nabsn-eq0 c =
+    let ns = c.args.self in
+    let none : ns.nabsn ≡ 0 = omega (arith, c.if-nabsn-eq0.true, c.nabsn.ensures) in
+    let here : unit_number ns 0 ≡ c.args.unit =
+    omega (arith, c.requires, count_none ns.nabsn ns.nabo 0 none, count_none ns.nabsn ns.nabo (ns.nsze - 1) none) in
+    subst (λ (unit : ℕ). IsPlaceOf ns unit c.unit_range.result.0 c.unit_range.result.1) here (rw c.self.view_is at c.unit_range.ensures)
 
 pub returns : goal.returns
 returns c =
-    rw (← c.self.view_is, c.min.ensures)
-    (place_from_starts _ c.args.unit c.unit_start-first.result c.unit_start-next.result c.self.invariant.some (rw (← c.self.view_is) at c.requires)
-    (rw c.from.ensures at c.unit_start-first.ensures) (rw c.from-2.ensures at c.unit_start-next.ensures))
+    let ns = c.args.self in
+    let from = rw (c.nabsn-2.ensures, c.nabo.ensures, c.from.ensures) at c.unit_start-first.ensures in
+    let here = number_at_start ns c.args.unit c.unit_start-first.result from c.requires in
+    subst (λ (unit : ℕ). IsPlaceOf ns unit c.unit_range-2.result.0 c.unit_range-2.result.1) here (rw c.self-2.view_is at c.unit_range-2.ensures)
