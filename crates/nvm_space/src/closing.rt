@@ -13,7 +13,7 @@ use nvm_record::NoMemory;
 use nvm_unit::{Kept, Pass, Unit};
 use std::alloc::Global;
 
-/// What is kept of the histories of the units, in their order.
+/// What is kept of the histories of the regions, in their order.
 pub(crate) fn histories<K: Kept>(
     alloc: Global,
     units: Vec<Unit<K>>,

@@ -1,4 +1,4 @@
-//! How two ports meet: in one unit after the other.
+//! How two ports meet: in one region after the other.
 ghost use Rattle.std.specs.Prelude.{◌≡◌, ℕ};
 ghost use Rattle.nvm_unit.specs.Ends.{views_of};
 ghost use Rattle.nvm_space.specs.Ports.{ArePassesOfAll};
@@ -7,7 +7,7 @@ ghost use Rattle.nvm_space.specs.Visits.{MeetInEach};
 use nvm_unit::{Kept, Pass, Unit};
 use std::sync::Wait;
 
-/// Brings the two passes of each unit to one history.
+/// Brings the two passes of each region to one history.
 pub(crate) fn meet_in_each<R: Wait, K: Kept>(
     rt: &R,
     units: &[Unit<K>],

@@ -1,4 +1,4 @@
-//! How a space begins: its units are made one after the other, and each unit's passes are handed out to the
+//! How a space begins: its regions are made one after the other, and each region's passes are handed out to the
 //! ports.
 ghost use Rattle.std.specs.Prelude.{◌≡◌, ◌+◌, ◌<◌, ◌≤◌, ◌^◌, [], IfOk, IfErr, OnOk, length};
 ghost use Rattle.nvm_geometry.specs.Boundaries.{units_of};
@@ -18,7 +18,7 @@ use nvm_unit::laws::new_passes_are_all;
 use nvm_unit::{Kept, MOST_ENTRIES, Pass, Unit};
 use std::alloc::Global;
 
-/// The units of a new space, and its ports.
+/// The regions of a new space, and its ports.
 pub(crate) fn opened<K: Kept>(
     alloc: Global,
     geometry: &LargeGeometry,
@@ -76,7 +76,7 @@ fn most_entries(limit: &Option<Limit>) -> u64
     }
 }
 
-/// The ports of a space that has no units yet, with room for `units` passes each.
+/// The ports of a space that has no regions yet, with room for `units` passes each.
 fn bare_ports<K: Kept>(alloc: Global, count: u16, units: u16) -> Result<Vec<Port<K>>, NoMemory>
     ensures { IfOk result (λ ports. AreDealt count [] ports.items) }
 {

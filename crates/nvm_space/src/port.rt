@@ -3,14 +3,14 @@ use nvm_store::History;
 use nvm_unit::{Kept, Pass};
 use std::marker::Model;
 
-/// A caller's token at a space: a pass of each of its units, all of the port's number.
+/// A caller's token at a space: a pass of each of its regions, all of the port's number.
 ///
-/// Contracts see its number, and of its passes the unit that each is of and what it has seen and done. A port
+/// Contracts see its number, and of its passes the region that each is of and what it has seen and done. A port
 /// that is dropped makes it impossible to close the space.
 #[derive(Drop)]
 pub struct Port<K: Kept = History> {
     pub(crate) number: u16,
-    /// The pass of unit k is at place k.
+    /// The pass of region k is at place k.
     pub(crate) passes: Vec<Pass<K>>,
 }
 
@@ -33,7 +33,7 @@ impl<K: Kept> Port<K> {
         self.number
     }
 
-    /// Adds the pass of the next unit.
+    /// Adds the pass of the next region.
     pub(crate) fn add(&mut self, pass: Pass<K>) -> Result<(), NoMemory>
         ensures { OnOk result (self.new ≡ with_one_more self.old pass) }
     {
@@ -41,7 +41,7 @@ impl<K: Kept> Port<K> {
         Ok(())
     }
 
-    /// The pass of the last unit, which leaves the port.
+    /// The pass of the last region, which leaves the port.
     pub(crate) fn take_last(&mut self) -> Pass<K>
         requires { self.old.passes ≢ [] }
         ensures { self.old ≡ with_one_more self.new result }

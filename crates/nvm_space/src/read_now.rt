@@ -13,7 +13,7 @@ use std::alloc::Global;
 /// The answer of a Read by [`Space::read_now`](crate::Space::read_now).
 #[derive(Debug, PartialEq, Eq, Drop)]
 pub struct ReadAnswer {
-    /// How many entries the unit's history had: the answer rests on their replay.
+    /// How many entries the region's history had: the answer rests on their replay.
     pub point: u64,
     /// 0/00, or 2/81 (NVM Command Set Specification, "Unrecovered Read Error") if the range has a block that was marked by
     /// Write Uncorrectable.
@@ -29,9 +29,9 @@ pub enum ReadNow {
     OutOfRange,
     /// The range lies in more than one unit. The port is as it was.
     Crosses,
-    /// The unit has been changed since the port has seen it: its history has `count` entries now.
+    /// The region has been changed since the port has seen it: its history has `count` entries now.
     Newer { count: u64 },
-    /// The port has seen all of the unit's `point` entries, but memory for the data was refused, or its pass keeps no
+    /// The port has seen all of the region's `point` entries, but memory for the data was refused, or its pass keeps no
     /// version.
     NoMemory { point: u64 },
 }
@@ -63,7 +63,7 @@ impl ReadAnswer {
 impl<K: Kept> Space<K> {
     /// Answers a Read from the version that the port keeps of its region, without taking the region: with one load it finds how
     /// many entries the region's history has, and the answer is only given if the port has seen them all. It doesn't matter
-    /// whether another port holds the unit. The port keeps what it kept. It waits for nothing.
+    /// whether another port holds the region. The port keeps what it kept. It waits for nothing.
     pub fn read_now(
         &self,
         alloc: Global,

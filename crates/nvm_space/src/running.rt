@@ -34,12 +34,12 @@ use std::sync::Wait;
 
 impl<K: Kept> Space<K> {
     /// Does a job by the port's passes, or refuses it, and says what is reported to its host. `number` is the job's number,
-    /// which the entries bear that it makes. Each part is one step of its unit; the parts are done in the order
+    /// which the entries bear that it makes. Each part is one step of its region; the parts are done in the order
     /// of the units, up to the first that doesn't succeed.
     ///
     /// A job that is refused, or has no parts, takes no memory. Any other asks for the memory of its list of parts
     /// before its first part, where parts are listed, and a Read over several units for that of its data; where it is refused,
-    /// nothing is done. It waits for the units.
+    /// nothing is done. It waits for the regions.
     pub fn run_job<R: Wait, G: Gate>(
         &self,
         rt: &R,
@@ -74,18 +74,18 @@ impl<K: Kept> Space<K> {
     /// Begins a job that is to be done without waiting. It is pending with no part done yet, and
     /// [`poll_job`](Space::poll_job) resumes it. It is done at once if a check refuses it, or if it has no parts. The memory is
     /// that of [`run_job`](Space::run_job) before its first part: where it is refused, the answer is `Done` with 0/06 and no
-    /// parts. It touches no unit.
+    /// parts. It touches no region.
     pub fn begin_job(&self, alloc: Global, number: u32, job: &Job) -> Progress
         ensures { (views : List PassView) → IsProgress self.now.namespace self.now.lists number job.now views views result }
     {
         begin(alloc, &self.geometry, self.recorded(), number, job)
     }
 
-    /// Resumes a job that was begun, part by part, up to the first whose unit it doesn't get, since another port has it or
+    /// Resumes a job that was begun, part by part, up to the first whose region it doesn't get, since another port has it or
     /// was quicker: then the job is pending. It is polled again with the same job and the same port. Between its first poll
     /// and its end the port makes no other call, not even a `refresh`. No part is done twice. When the job is done, its parts and
     /// completions are such as [`run_job`](Space::run_job) may give. `Gate::before_put` is called once for each change that takes its
-    /// unit. It waits for nothing.
+    /// region. It waits for nothing.
     pub fn poll_job<G: Gate>(
         &self,
         alloc: Global,
@@ -171,7 +171,7 @@ fn do_job<R: Wait, G: Gate, K: Kept>(
     }
 }
 
-/// Goes on with a job, part by part, up to the first whose unit is held.
+/// Goes on with a job, part by part, up to the first whose region is held.
 fn poll_job<G: Gate, K: Kept>(
     alloc: Global,
     geometry: &LargeGeometry,

@@ -1,4 +1,4 @@
-//! A job that is done without waiting: begun, gone on with as far as the units are free, and done.
+//! A job that is done without waiting: begun, gone on with as far as the regions are free, and done.
 ghost use Rattle.std.specs.Prelude.{◌≡◌, ◌<◌, ◌^◌, ℕ, Bool, true, List, [], is_some, length, vec_capacity, vec_len, Some, None, IfOk};
 ghost use Rattle.nvm_record.specs.declared.status.Statuses.{Statuses as Told};
 ghost use Rattle.nvm_geometry.specs.Large.{region_of, regions_of};
@@ -37,14 +37,14 @@ use nvm_record::{NoMemory, Op};
 use std::alloc::Global;
 use std::marker::Model;
 
-/// A job that was begun and isn't done: the parts that were done, where they are listed, and in which unit the next one is.
+/// A job that was begun and isn't done: the parts that were done, where they are listed, and where the next one is.
 ///
 /// It holds its number and what its parts read, too, but not the job, which is lent each time. Dropped, it leaves the parts that were
 /// done.
 #[derive(Drop)]
 pub struct JobUnderWay {
     pub(crate) number: u32,
-    /// The lowest LBA of the next part.
+    /// The lowest LBA of the next part, which the job reaches.
     lba: u64,
     /// The parts that were done, with room for all that are left, where they are listed.
     parts: Vec<Part>,
@@ -73,7 +73,7 @@ impl Model for JobUnderWay {
 pub enum Progress {
     /// It was done or refused, and this is what is reported about it.
     Done(JobDone),
-    /// The unit of its next part was not to be had, or none of its parts was tried yet.
+    /// The region of its next part was not to be had, or none of its parts was tried yet.
     Pending(JobUnderWay),
 }
 

@@ -121,6 +121,19 @@ rewritten_on at i n place news old mid new so_far here put = record {
       put.others j block now (so_far.others j block before is);
 }
 
+-- Blocks that are the new ones already stay.
+pub rewritten_as_they_were : (at n : ℕ) (news : ℕ → Block) (old : List Block) → ((i j : ℕ) → i < n → IsAt old (at + i) (news j))
+    → IsRewritten at n news old old
+rewritten_as_they_were at n news old same = record { len = refl; rewritten = λ i lt. same i i lt; others = λ j block out is. is }
+
+-- So may those after blocks that are already new.
+pub rewritten_on_as_they_were : (at i n place : ℕ) (news : ℕ → Block) (old new : List Block) → IsRewritten at i news old new → place ≡ at + i
+    → ((j k : ℕ) → j < n → IsAt old (place + j) (news k)) → IsRewritten at (i + n) news old new
+rewritten_on_as_they_were at i n place news old new so_far here same =
+    rewritten_on at i n place news old new new so_far here
+    (rewritten_as_they_were place n (λ j. news (i + j)) new
+    (λ j k lt. so_far.others (place + j) (news (i + k)) (inr (omega arith)) (same j (i + k) lt)))
+
 -- So are the blocks at the front, where the range lies in it.
 pub rewritten_front : (at n count : ℕ) (news : ℕ → Block) (old new : List Block) → at + n ≤ count → count ≤ length old
     → IsRewritten at n news old new → IsRewritten at n news (take count old) (take count new)

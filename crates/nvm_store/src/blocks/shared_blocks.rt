@@ -1,6 +1,7 @@
-ghost use Rattle.std.specs.Prelude.{◌≡◌, ◌+◌, ◌*◌, ◌++◌, ◌-◌, ◌<◌, ◌≤◌, IfOk, OnErr, OnOk, length, replicate, slice_set};
+ghost use Rattle.std.specs.Prelude.{◌≡◌, ℕ, ◌+◌, ◌*◌, ◌++◌, ◌-◌, ◌<◌, ◌≤◌, IfOk, OnErr, OnOk, length, replicate, slice_set};
 ghost use Rattle.std.specs.Str.{bytes_eq};
 ghost use Rattle.nvm_record.specs.declared.block.Block.TheVariants.{Uncorrectable};
+ghost use Rattle.nvm_record.specs.Lists.{IsAt};
 ghost use Rattle.nvm_record.specs.Medium as medium;
 ghost use Rattle.nvm_record.specs.PayloadRef.{lent_bytes};
 ghost use Rattle.nvm_record.specs.Step.{block_at};
@@ -103,7 +104,7 @@ impl SharedBlocks {
         self.fill(alloc, at, count, &Source::Data { size, payload })
     }
 
-    /// The `count` blocks from place `at` become `size` zero bytes each.
+    /// The `count` blocks from place `at` become `size` zero bytes each. It takes no memory for a leaf in which they are kept so already.
     pub fn zero(
         &mut self,
         alloc: Global,
@@ -116,7 +117,11 @@ impl SharedBlocks {
             (IsRewritten at count (λ _. zero_block size) self.old self.new) }
         ensures err { OnErr result (self.new ≡ self.old) }
     {
-        self.fill(alloc, at, count, &Source::Zeroes { size })
+        let zeroes = Source::Zeroes { size };
+        if count > 0 && self.zero_already(at, count, &zeroes) == count {
+            return Ok(());
+        }
+        self.fill(alloc, at, count, &zeroes)
     }
 
     /// The `count` blocks from place `at` are marked.
@@ -225,6 +230,25 @@ impl SharedBlocks {
         &stretch[..len]
     }
 
+    /// How many blocks from place `from` on a source of zeroes leaves as they are, as far as they are in one leaf, and at most `most`: 0 where it changes
+    /// how one of these is kept, and of another source.
+    fn zero_already(&self, from: usize, most: usize, source: &Source<'_>) -> usize
+        requires some { 0 < most }
+        requires range { from + most ≤ length self.now }
+        ensures few { result ≤ most }
+        ensures same { (i j : ℕ) → i < result → IsAt self.now (from + i) (source_block source.now j) }
+    {
+        let Source::Zeroes { size } = *source else {
+            return 0;
+        };
+        let stretch = self.stretch(from, most);
+        if stretches::are_kept_as_zero(stretch, size) {
+            stretch.len()
+        } else {
+            0
+        }
+    }
+
     /// Puts the source's first block at place `at`.
     #[inline(always)]
     fn set(&mut self, alloc: Global, at: usize, source: &Source<'_>) -> Result<(), NoMemory>
@@ -302,7 +326,12 @@ impl SharedBlocks {
         let mut after = self.share()?;
         let mut done = 0;
         while done < count {
-            done += after.fill_stretch(alloc, at + done, done, count, 1, source)?;
+            let same = self.zero_already(at + done, count - done, source);
+            done += if same > 0 {
+                same
+            } else {
+                after.fill_stretch(alloc, at + done, done, count, 1, source)?
+            };
         }
         Ok(after)
     }

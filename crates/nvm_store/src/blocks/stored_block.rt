@@ -1,4 +1,5 @@
 ghost use Rattle.std.specs.Prelude.{◌≡◌, ◌++◌, ℕ, List, IfOk, IsTrue, OnErr, OnOk, MatchOption, ◌↔◌, ◌+◌, ◌≤◌, length, replicate, take};
+ghost use Rattle.std.specs.Bool.{OnTrue};
 ghost use Rattle.nvm_record.specs.declared.block.Block.TheVariants.{Bytes, Uncorrectable};
 ghost use Rattle.nvm_record.specs.Medium as medium;
 ghost use Rattle.nvm_record.specs.Medium.{bytes_of};
@@ -93,6 +94,16 @@ impl StoredBlock {
         match &self.content {
             Content::Zero { .. } | Content::Data(_) => false,
             Content::Marked => true,
+        }
+    }
+
+    /// Whether it is kept as `size` zero bytes, which takes no memory. A block of data isn't, whatever its bytes are.
+    pub fn is_kept_as_zero(&self, size: usize) -> bool
+        ensures { OnTrue result (self.now ≡ zero_block size) }
+    {
+        match &self.content {
+            Content::Zero { size: own } => *own == size,
+            Content::Data(_) | Content::Marked => false,
         }
     }
 

@@ -1,5 +1,7 @@
-ghost use Rattle.std.specs.Prelude.{◌≡◌, ◌+◌, ◌++◌, ◌≤◌, ℕ, List, MatchOption, OnOk, length, take};
+ghost use Rattle.std.specs.Prelude.{◌≡◌, ◌+◌, ◌++◌, ◌≤◌, ℕ, All, List, MatchOption, OnOk, length, take};
+ghost use Rattle.std.specs.Bool.{OnTrue};
 ghost use Rattle.nvm_record.specs.Medium as medium;
+ghost use Rattle.nvm_store.specs.Inside.Rewrite.{zero_block};
 
 use crate::blocks::stored_block::StoredBlock;
 use nvm_record::NoMemory;
@@ -14,6 +16,18 @@ pub fn has_mark(blocks: &[StoredBlock]) -> bool
         }
     }
     false
+}
+
+/// Whether all of them are kept as `size` zero bytes.
+pub fn are_kept_as_zero(blocks: &[StoredBlock], size: usize) -> bool
+    ensures { OnTrue result (All (λ block. block ≡ zero_block size) blocks.now) }
+{
+    for block in blocks {
+        if !block.is_kept_as_zero(size) {
+            return false;
+        }
+    }
+    true
 }
 
 /// Appends the bytes of the blocks, one block after the other.
