@@ -16,6 +16,7 @@
 #undef zk_data_length
 #undef zk_identify_namespace
 #undef zk_record
+#undef zk_record_part
 #undef zk_audit
 
 struct engine {
@@ -305,6 +306,12 @@ int zk_record(struct zk_port *ports, size_t count, uint8_t *bytes, size_t room, 
 {
     (void)ports, (void)count, (void)bytes, (void)room, (void)length;
     return ZK_NO_RECORD;
+}
+
+int zk_record_part(struct zk_port *ports, size_t count, uint64_t from, uint8_t *bytes, size_t room, size_t *length)
+{
+    (void)from;
+    return zk_record(ports, count, bytes, room, length);
 }
 
 int zk_audit(const uint8_t *bytes, size_t length, char *line, size_t room)

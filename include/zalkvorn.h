@@ -35,7 +35,7 @@ extern "C" {
 #endif
 
 /* The version of this header. zk_version() gives that of the library; the two must be equal. */
-#define ZK_VERSION 5
+#define ZK_VERSION 6
 
 /* The most blocks of a namespace, and of one that is recorded. */
 #define ZK_MOST_BLOCKS (UINT64_C(1) << 40)
@@ -124,11 +124,11 @@ uint32_t zk_version(void);
  * Its atomic units are kept in at most 4,096 regions, each of a row of whole units: of one unit where there are no more units than that,
  * and else of the least number that makes so few. One port at a time works in a region: what needs it meanwhile is pending, and zk_poll tries it
  * again. A namespace without a boundary is one unit, and so one region: advertise boundaries where several ports are to work at once.
- * Memory is taken for what is written. A block that nobody has written is zeroes; opening takes some bytes for each region and port, and a byte for each
- * 256 blocks. In a region of more than 65,536 bytes a Write Zeroes or Deallocate takes some 50 bytes for each of its blocks, also of those that nobody had
- * written. A command that changes several blocks of such a region copies, on its way, 8 bytes for each 2,048 blocks of the region; with `versions` one that
- * changes a block may, too. That is nothing up to some 2^31 blocks of a namespace with boundaries, and milliseconds at 2^40; without a boundary it is 8 MiB
- * at 2^31. No call is broken off: a Dataset Management of 256 ranges may name all blocks, and takes a step for each unit that they are in.
+ * Memory is taken for what is written. A block that nobody has written is zeroes; opening takes up to 2 KiB for each region, and some
+ * 70 bytes for each region and port. A region of more than 65,536 bytes keeps its blocks by eight: a Write Zeroes or Deallocate takes no memory for eight of which it changes none that
+ * was written, and leaves some 50 bytes a block where one was. A command that changes several blocks of such a region makes some 50 bytes for each anew, and
+ * copies up to 2 KiB of the tree above them; with `versions` one that changes a block may, too.
+ * No call is broken off: a Dataset Management of 256 ranges may name all blocks, and takes a step for each unit that they are in.
  *
  * With a `limit` of 1 to ZK_MOST_CHANGES it is recorded: each port keeps each command that it did, with its data, what it read and
  * how it ended, for zk_record. Memory grows with each command; a large limit reserves nothing. After ZK_MOST_JOBS of all ports together no more is kept, and
@@ -293,14 +293,25 @@ int zk_refute(const uint8_t *trace, size_t trace_length, const uint8_t *contradi
  * `nvq-view` read it.
  * ZK_DONE: the file stands in the front of `bytes`, and `*length` is how long it is.
  * ZK_SHORT_ROOM: the room is shorter than the file. `*length` is how long that is, and nothing else is written. So a first call with a
- * `room` of 0 asks for the length; it takes as much time and memory as the call that gives the record.
+ * `room` of 0 asks for the length; it takes the time of an audit, and no memory for the file.
  * ZK_NOT_OPEN, ZK_NO_RECORD, ZK_BUSY, ZK_RECORD_FULL: so it is with one of the ports. ZK_OTHER_PORTS: a port is missing, comes twice, stands
  * at another's place, or is of another namespace. ZK_NO_MEMORY: malloc refused. ZK_UNLAWFUL: what was gathered is no lawful record, which
  * no run should come to. After each of these nothing is written, nothing is lost, and it can be called again.
- * It takes some memory for each byte of the file, and gives it back. It starts no thread, and waits for nothing. A port that was closed
+ * It takes some memory for each command, up to three times that of the file, as far as the room reaches, and on the way that of the data of one Read; and
+ * gives it back. Of a long run take the file by zk_record_part. It starts no thread, and waits for nothing. A port that was closed
  * is missing, and what it did is lost: close the ports after the record.
  * Threads: nobody else uses these ports during the call. */
 int zk_record(struct zk_port *ports, size_t count, uint8_t *bytes, size_t room, size_t *length);
+
+/* Gives a piece of the file that zk_record gives: its bytes from place `from` on, as many as there are and as there is room for.
+ * ZK_DONE: the piece stands in the front of `bytes`, and `*length` is how long the whole file is. With a `room` of 0, and from the end of the file on,
+ * the length is told and nothing else is written.
+ * Else it answers as zk_record, but never ZK_SHORT_ROOM, and nothing is written.
+ * The record is gathered and audited at each call, so take large pieces, such as 16 MiB. They are pieces of one file where no port did anything in between:
+ * then put together they are what zk_record gives.
+ * It takes memory as zk_record does, for the piece and not for the file: so what it takes grows with the number of commands, and not with their data.
+ * Threads: as zk_record. */
+int zk_record_part(struct zk_port *ports, size_t count, uint64_t from, uint8_t *bytes, size_t room, size_t *length);
 
 /* NULL, which the library's own functions don't take, is answered here. A port that is NULL is not open; ports that are NULL are none. A
  * buffer that is NULL has no room: where its length is above 0, or the call has to write to it, the answer is ZK_BAD_LENGTH, and
@@ -394,6 +405,16 @@ static inline int zk_record_or_null(struct zk_port *ports, size_t count, uint8_t
     return zk_record(ports, count, bytes ? bytes : &none, room, length);
 }
 
+static inline int zk_record_part_or_null(struct zk_port *ports, size_t count, uint64_t from, uint8_t *bytes, size_t room, size_t *length)
+{
+    uint8_t none;
+    if (!ports)
+        return ZK_OTHER_PORTS;
+    if (!length || (!bytes && room))
+        return ZK_BAD_LENGTH;
+    return zk_record_part(ports, count, from, bytes ? bytes : &none, room, length);
+}
+
 #define zk_open zk_open_or_null
 #define zk_close zk_close_or_null
 #define zk_submit zk_submit_or_null
@@ -406,6 +427,7 @@ static inline int zk_record_or_null(struct zk_port *ports, size_t count, uint8_t
 #define zk_witness zk_witness_or_null
 #define zk_refute zk_refute_or_null
 #define zk_record zk_record_or_null
+#define zk_record_part zk_record_part_or_null
 
 /* The command identifier, the status code type and the status code of a completion queue entry. */
 static inline uint16_t zk_cid(const uint8_t *completion)

@@ -8,3 +8,5 @@ pub mod Answered
 pub mod Worked
 pub mod Held
 pub mod BufferLengths
+pub mod Pieces
+pub mod Vecs

@@ -1,5 +1,5 @@
 -- What the ports did, copied port by port.
-use Rattle.std.proofs.Common.{◌≡◌, ◌∙◌, ℕ, ◌+◌, ◌<◌, List, [], ◌∷◌, ◌++◌, length, get_or, Option, inl, inr, refl, sym, ap, subst, arith}
+use Rattle.std.proofs.Common.{◌≡◌, ◌∙◌, ℕ, ◌+◌, ◌<◌, List, [], ◌∷◌, ◌++◌, length, get_or, Option, inl, inr, refl, sym, ap, subst, arith, IfErr, IfOk, OnOk, Ok, Err, Result}
 use Rattle.std.specs.Prelude.{slice_set}
 use Rattle.std.proofs.lemmas.List.{length_push}
 use mathlib.Core.Option.{some-injective, some-ne-none}
@@ -9,12 +9,16 @@ use Rattle.nvm_plan.specs.declared.job.Job.{Job}
 use Rattle.nvm_audit.specs.RecordedJob.{RecordedJob}
 use Rattle.nvm_audit.specs.LawfulRecord.{IsLawfulRecord}
 use Rattle.nvm_audit.specs.RecordView.{RecordView}
-use Rattle.nvm_c.specs.Recorded.{AllHaveWorked, IsReason, IsRecorded, IsRecordOf, IsSomebodys, Refuses, Room, WorkedAt}
+use Rattle.nvm_file.specs.RecordFile.{IsRecordFile}
+use Rattle.nvm_file.specs.Spelling.{record_bytes}
+use Rattle.nvm_c.specs.Recorded.{AllHaveWorked, IsReason, IsRecorded, IsRecordedPart, IsRecordOf, IsSomebodys, Refuses, Room, WorkedAt}
 use Rattle.nvm_c.specs.Inside.Gathering.{IsGathered, IsLate}
+use Rattle.nvm_c.specs.Inside.Window.{IsHanded, IsHandedFile}
 use Rattle.nvm_c.specs.declared.engine.Engine.{Engine}
 use Rattle.nvm_c.specs.declared.record_code.RecordCode.{RecordCode}
 use Rattle.nvm_c.specs.declared.record_code.RecordCode.TheVariants.{Done, NotOpen, NoMemory, Busy, Unlawful, ShortRoom, OtherPorts, NoRecord, RecordFull}
 use Rattle.nvm_c.specs.declared.handle.Handle.{Handle}
+use Rattle.nvm_c.specs.declared.window.Window.{Window}
 use Rattle.nvm_c.specs.Opening.{engines_of}
 use Rattle.nvm_c.proofs.Places.{at_below, at_index, at_map, at_push, map_set}
 
@@ -93,6 +97,19 @@ not_written OtherPorts held room reason = refl
 not_written Unlawful held room reason = refl
 not_written NoMemory held room reason = refl
 
+-- Nor was a part.
+pub part_not_written : (code : RecordCode) (held : List (Option Engine)) (from : ℕ) (room : Room) → IsReason code held
+    → IsRecordedPart code held from room room
+part_not_written Done held from room reason = absurd reason
+part_not_written ShortRoom held from room reason = absurd reason
+part_not_written NotOpen held from room reason = (refl, reason)
+part_not_written Busy held from room reason = (refl, reason)
+part_not_written NoRecord held from room reason = (refl, reason)
+part_not_written RecordFull held from room reason = (refl, reason)
+part_not_written OtherPorts held from room reason = refl
+part_not_written Unlawful held from room reason = refl
+part_not_written NoMemory held from room reason = refl
+
 -- What was gathered of all ports, and is lawful, is a record of theirs.
 pub record_of_ports : (ns : Namespace) (most : ℕ) (held : List (Option Engine)) (jobs : List (List Job)) (done : List (List RecordedJob)) (r : RecordView)
     → AllHaveWorked ns most held jobs done → IsGathered ns most jobs done r → IsLawfulRecord r → IsRecordOf held r
@@ -106,6 +123,18 @@ record_of_ports ns most held jobs done r worked gathered lawful = record {
       (subst (λ (ds : List (List RecordedJob)). AllHaveWorked ns most held jobs ds) (sym gathered.done) worked));
   each = λ number job at. subst (λ (ds : List (List RecordedJob)). IsSomebodys jobs ds number job) (sym gathered.done) (gathered.each number job at);
 }
+
+-- What went wrong late is a reason, where a window was asked for.
+pub late_refused : (result : Result Window RecordCode) (held : List (Option Engine)) → IfErr result IsLate → IfErr result (λ code. IsReason code held)
+late_refused (Ok window) held late = tt
+late_refused (Err code) held late = late_reason code held late
+
+-- The window was handed the file of a record that is lawful.
+pub handed_file : (result : Result Window RecordCode) (held : List (Option Engine)) (from most : ℕ) (run : RecordView)
+    → (IsLawfulRecord run → IsRecordOf held run) → OnOk result (IsLawfulRecord run) → OnOk result (IsRecordFile (record_bytes run) run)
+    → IfOk result (λ window. IsHanded window from most (record_bytes run)) → IfOk result (λ window. IsHandedFile held window from most)
+handed_file (Ok window) held from most run of lawful file handed = record { run = run; of = of lawful; file = file; handed = handed }
+handed_file (Err code) held from most run of lawful file handed = tt
 
 -- A port at its place, of ports that hold what these held at the entry.
 module _ (ports entry : List Handle) (place : ℕ) (x : Handle) (read : x ≡ get_or ports place x) (lt : place < length ports)

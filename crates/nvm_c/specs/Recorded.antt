@@ -1,5 +1,5 @@
 -- What C is told of the record of what all ports of a namespace did.
-use Rattle.std.specs.Prelude.{◌≡◌, ℕ, ◌<◌, ◌≤◌, true, false, List, length, Option, Some, None}
+use Rattle.std.specs.Prelude.{◌≡◌, ℕ, ◌<◌, ◌≤◌, true, false, List, drop, length, Option, Some, None}
 use Rattle.nvm_record.specs.Lists.{IsAt}
 use Rattle.nvm_geometry.specs.Namespace.{Namespace}
 use Rattle.nvm_plan.specs.declared.job.Job.{Job}
@@ -82,6 +82,14 @@ pub record IsTooLong (held : List (Option Engine)) (old new : Room) : Type 0 whe
   pub kept : new.bytes ≡ old.bytes
   pub size : new.size ≡ length (record_bytes run)
 
+-- The file of the record from a place on stands in the room, as far as either reaches.
+pub record IsPartWritten (held : List (Option Engine)) (from : ℕ) (old new : Room) : Type 0 where
+  pub run : RecordView
+  pub of : IsRecordOf held run
+  pub file : IsRecordFile (record_bytes run) run
+  pub written : new.bytes ≡ overwritten (drop from (record_bytes run)) old.bytes
+  pub size : new.size ≡ length (record_bytes run)
+
 -- what the code says of one port
 abbrev pub Refuses : RecordCode → Option Engine → Type 0
 Refuses Done one = ⊥
@@ -121,3 +129,15 @@ IsRecorded RecordFull held old new = (new ≡ old) × IsReason RecordFull held
 IsRecorded OtherPorts held old new = new ≡ old
 IsRecorded Unlawful held old new = new ≡ old
 IsRecorded NoMemory held old new = new ≡ old
+
+-- what is told where the file from a place on is asked for: a room is never too short
+abbrev pub IsRecordedPart : RecordCode → List (Option Engine) → ℕ → Room → Room → Type 0
+IsRecordedPart Done held from old new = IsPartWritten held from old new
+IsRecordedPart ShortRoom held from old new = ⊥
+IsRecordedPart NotOpen held from old new = IsRecorded NotOpen held old new
+IsRecordedPart Busy held from old new = IsRecorded Busy held old new
+IsRecordedPart NoRecord held from old new = IsRecorded NoRecord held old new
+IsRecordedPart RecordFull held from old new = IsRecorded RecordFull held old new
+IsRecordedPart OtherPorts held from old new = IsRecorded OtherPorts held old new
+IsRecordedPart Unlawful held from old new = IsRecorded Unlawful held old new
+IsRecordedPart NoMemory held from old new = IsRecorded NoMemory held old new

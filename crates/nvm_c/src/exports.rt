@@ -11,7 +11,7 @@ ghost use Rattle.nvm_c.specs.Opening.{Opens, engines_of, numbers_of};
 ghost use Rattle.nvm_c.specs.ReadNow.{ReadsAt};
 ghost use Rattle.nvm_c.specs.declared.audit_code.AuditCode.{AuditCode as AuditAnswer};
 ghost use Rattle.nvm_c.specs.RecordCodes.{record_number};
-ghost use Rattle.nvm_c.specs.Recorded.{IsRecorded};
+ghost use Rattle.nvm_c.specs.Recorded.{IsRecorded, IsRecordedPart};
 ghost use Rattle.nvm_c.specs.Refuted.{IsRefuted};
 ghost use Rattle.nvm_c.specs.TraceAnswer as spec;
 ghost use Rattle.nvm_c.specs.TraceAnswer.{IsAnswer, judging_of};
@@ -28,14 +28,14 @@ use crate::handle::Handle;
 use crate::identify::{identify_numbers, report};
 use crate::opening::{Numbers, open_ports};
 use crate::reading::ReadStatus;
-use crate::recording::record_ports;
+use crate::recording::{record_part, record_ports};
 use crate::refuting::refuted;
 use crate::witnessing::witnessed;
 use nvm_trace::Judging;
 use std::alloc::Global;
 
 /// The version of the header that goes with this library.
-const VERSION: u32 = 5;
+const VERSION: u32 = 6;
 
 /// The version of the header that goes with this library.
 #[unsafe(no_mangle)]
@@ -242,6 +242,23 @@ pub extern "C" fn zk_record(
         (record { bytes = bytes.new; size = size.new }) }
 {
     record_ports(alloc, ports, bytes, size).number()
+}
+
+/// Writes a piece of that file: what stands in it from a place on, as far as the room reaches. It tells the length of the whole
+/// file. Any other answer than 0 leaves the bytes as they were.
+#[unsafe(no_mangle)]
+pub extern "C" fn zk_record_part(
+    alloc: Global,
+    ports: &mut [Handle],
+    from: u64,
+    bytes: &mut [u8],
+    size: &mut usize,
+) -> i32
+    ensures { (code : Recording) × (result ≡ record_number code) × (engines_of ports.new ≡ engines_of ports.old)
+        × IsRecordedPart code (engines_of ports.old) from (record { bytes = bytes.old; size = size.old })
+        (record { bytes = bytes.new; size = size.new }) }
+{
+    record_part(alloc, ports, from as usize, bytes, size).number()
 }
 
 fn closed(alloc: Global, port: &mut Handle) -> Code

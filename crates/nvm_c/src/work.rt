@@ -7,6 +7,7 @@ use crate::engine::Engine;
 use crate::handle::Handle;
 use crate::log::Numbering;
 use crate::record_code::RecordCode;
+use crate::sharing::share_reads;
 use nvm_audit::DoneJob;
 use nvm_geometry::Geometry;
 use nvm_plan::Job;
@@ -120,9 +121,10 @@ fn port_work(
     ensures work { IfOk result (λ w. WorkedAt head.now.geometry head.now.limit place port.old.held.engine w.0.items w.1.items) }
     ensures refused { IfErr result (λ code. Refuses code port.old.held.engine) }
 {
-    let Some(engine) = port.take(alloc) else {
+    let Some(mut engine) = port.take(alloc) else {
         return Err(RecordCode::NotOpen);
     };
+    engine.share_reads(alloc);
     let work = engine.work(alloc, head, place);
     port.put(engine);
     work
@@ -147,6 +149,15 @@ impl Engine {
             limit: log.limit,
             numbering,
         })
+    }
+
+    /// Has what its Reads read shared, so that a copy of it takes no memory.
+    fn share_reads(&mut self, alloc: Global)
+        ensures { self.new ≡ self.old }
+    {
+        if let Some(log) = &mut self.log {
+            share_reads(alloc, &mut log.done);
+        }
     }
 
     /// Its jobs, and what it did of each, where it is the port at this place of the namespace.
