@@ -1,4 +1,4 @@
-/* Holds large namespaces, of up to 2^33 blocks, to small ones: what is asked of a window of a large namespace is asked of a small namespace that is
+/* Holds large namespaces, of up to 2^40 blocks, to small ones: what is asked of a window of a large namespace is asked of a small namespace that is
  * as long as the window and has its boundaries at the same places, and both must answer alike, to the byte.
  *
  *     large [SEED] [--times]
@@ -32,14 +32,14 @@ enum {
     OTHERS = 8              /* namespaces that follow from the seed */
 };
 
-/* The largest namespace that is opened here: opening one takes memory and time in step with NSZE. */
-static const uint64_t MOST_NSZE = 1ull << 33;
+/* The largest namespace that there is. */
+static const uint64_t MOST_NSZE = 1ull << 40;
 
 /* NSZE, bytes of a block, NABSN, NABO, NAWUN and NACWU. */
 static const struct zk_namespace namespaces[] = {
-    { 1ull << 33, 512, 7, 0, 7, 3 },
-    { 1ull << 33, 4096, 15, 5, 15, 15 },
-    { 1ull << 33, 512, 65535, 40000, 31, 15 },
+    { 1ull << 40, 512, 7, 0, 7, 3 },
+    { 1ull << 40, 4096, 15, 5, 15, 15 },
+    { 1ull << 36, 512, 65535, 40000, 31, 15 },
     { 1ull << 33, 512, 1, 1, 0, 1 },
     { (1ull << 31) + 5, 4096, 7, 3, 3, 7 },
     { (1ull << 31) + 5, 512, 127, 0, 127, 0 },
@@ -50,7 +50,7 @@ static const struct zk_namespace namespaces[] = {
     { 100003, 4096, 15, 0, 3, 15 },
     { 100003, 512, 127, 126, 127, 127 },
     { 100003, 512, 65535, 65535, 15, 31 },
-    { (1u << 22) - 1, 512, 0, 0, 31, 15 },
+    { UINT32_MAX, 512, 0, 0, 31, 15 },
     { 65537, 4096, 0, 0, 0, 0 },
 };
 
@@ -589,24 +589,26 @@ static long resident_bytes(void)
     return kilobytes * 1024;
 }
 
-/* Opens the largest namespace with all its ports, reads its ends, and closes it. */
+/* Opens the largest namespace with all its ports, which takes less than 256 MB, reads its ends, and closes it. */
 static void open_largest(bool times)
 {
     static struct zk_port all[ZK_MOST_PORTS];
     for (int turn = 0; turn < 2; turn++) {
         versions = turn != 0;
         ns = (struct zk_namespace) { MOST_NSZE, 512, 7, 0, 7, 7 };
+        long before = resident_bytes();
         double begin = milliseconds();
         MUST(zk_open(all, ZK_MOST_PORTS, &ns, ZK_NO_LIMIT, versions) == ZK_DONE);
         double open = milliseconds();
         long resident = resident_bytes();
+        MUST(resident - before < 256000000);
         must_be_untouched(&all[ZK_MOST_PORTS - 1], MOST_NSZE - 1);
         must_be_untouched(&all[0], 0);
         double read = milliseconds();
         for (int p = 0; p < ZK_MOST_PORTS; p++)
             MUST(zk_close(&all[p]) == ZK_DONE);
         if (times)
-            fprintf(stderr, "large: 2^33 blocks, 64 ports, %s versions: opened in %.3f ms, closed in %.3f ms, resident %ld KB meanwhile\n",
+            fprintf(stderr, "large: 2^40 blocks, 64 ports, %s versions: opened in %.3f ms, closed in %.3f ms, resident %ld KB meanwhile\n",
                     versions ? "with" : "without", open - begin, milliseconds() - read, resident / 1024);
     }
 }
@@ -624,11 +626,11 @@ static unsigned hold_numbers(void)
         { { 0, 512, 7, 0, 7, 7 }, ZK_NO_LIMIT, ZK_BAD_NAMESPACE },
         { { (1ull << 40) + 1, 512, 7, 0, 7, 7 }, ZK_NO_LIMIT, ZK_BAD_NAMESPACE },
         { { UINT64_MAX, 512, 7, 0, 7, 7 }, ZK_NO_LIMIT, ZK_BAD_NAMESPACE },
-        { { 1ull << 33, 512, 65535, 65535, 65535, 65535 }, ZK_NO_LIMIT, ZK_DONE },
-        { { 1ull << 33, 512, 1, 0, 0, 0 }, ZK_NO_LIMIT, ZK_DONE },
+        { { 1ull << 40, 512, 65535, 65535, 65535, 65535 }, ZK_NO_LIMIT, ZK_DONE },
+        { { 1ull << 40, 512, 1, 0, 0, 0 }, ZK_NO_LIMIT, ZK_DONE },
         { { 1ull << 32, 512, 0, 0, 0, 0 }, ZK_NO_LIMIT, ZK_BAD_NAMESPACE },
         { { 1ull << 40, 512, 0, 0, 0, 0 }, ZK_NO_LIMIT, ZK_BAD_NAMESPACE },
-        { { 1u << 22, 512, 0, 0, 65535, 65535 }, ZK_NO_LIMIT, ZK_DONE },
+        { { UINT32_MAX, 512, 0, 0, 65535, 65535 }, ZK_NO_LIMIT, ZK_DONE },
         { { UINT32_MAX, 512, 0, 1, 0, 0 }, ZK_NO_LIMIT, ZK_BAD_NAMESPACE },
         { { 1ull << 40, 1024, 7, 0, 7, 7 }, ZK_NO_LIMIT, ZK_BAD_NAMESPACE },
         { { 1ull << 40, 4096, 7, 8, 7, 7 }, ZK_NO_LIMIT, ZK_BAD_NAMESPACE },
@@ -774,7 +776,7 @@ int main(int words, char **word)
         for (int turn = 0; turn < 2; turn++, all++)
             hold(&numbers, turn != 0);
     }
-    printf("%zu namespaces of up to 2^33 blocks, in %lu windows, from seed %llu: %lu commands, each answered as in a small namespace (%lu succeeded, "
+    printf("%zu namespaces of up to 2^40 blocks, in %lu windows, from seed %llu: %lu commands, each answered as in a small namespace (%lu succeeded, "
            "%lu failed, %lu refused; %lu pairs; zk_read_now %lu, newer %lu); %u rows of numbers\n",
            all, opened, (unsigned long long)seed, commands, succeeded, failed, refused, pairs, now_read, now_newer, rows);
     return 0;

@@ -35,16 +35,16 @@ enum state {
     RECORDED_STARVED
 };
 
-enum call { OPENS, CLOSES, SUBMITS, POLLS, IDENTIFIES, IDENTIFIES_NAMESPACE, READS_NOW, RECORDS };
+enum call { OPENS, CLOSES, SUBMITS, POLLS, IDENTIFIES, IDENTIFIES_NAMESPACE, READS_NOW, RECORDS, RECORDS_PART };
 
 struct row {
     int code;
     enum call call;
     enum state state;
     const char *misuse;
-    /* Lengths: of the entries, the data and the completions. Of zk_open and zk_record the first is the number of ports. */
+    /* Lengths: of the entries, the data and the completions. Of zk_open, zk_record and zk_record_part the first is the number of ports. */
     size_t entries, data, completions;
-    /* The opcodes and the FUSE bits of a submission, the LBA and NLB of zk_read_now, the first port of zk_record. */
+    /* The opcodes and the FUSE bits of a submission, the LBA and NLB of zk_read_now, the first port of zk_record, and where a piece begins. */
     uint64_t first, second;
     struct zk_namespace ns;
     uint32_t limit;
@@ -60,6 +60,7 @@ struct row {
 #define NAMESPACE_ROW(code, state, misuse, data, ...) { code, IDENTIFIES_NAMESPACE, state, misuse, 0, data, 0, 0, 0, { __VA_ARGS__ }, 0 }
 #define READ_NOW_ROW(code, state, misuse, slba, nlb, data) { code, READS_NOW, state, misuse, 0, data, 0, slba, nlb, USUAL }
 #define RECORD_ROW(code, state, misuse, first, ports, room) { code, RECORDS, state, misuse, ports, room, 0, first, 0, USUAL }
+#define PART_ROW(code, state, misuse, ports, from, room) { code, RECORDS_PART, state, misuse, ports, room, 0, 0, from, USUAL }
 
 /* An opcode with its FUSE bits. */
 #define FUSED(opcode, fuse) ((opcode) | (fuse) << 8)
@@ -162,6 +163,11 @@ static const struct row rows[] = {
     RECORD_ROW(ZK_BUSY, ASKED, "record while a command is pending", 0, PORTS, ROOM),
     RECORD_ROW(ZK_SHORT_ROOM, RECORDED, "record without room", 0, PORTS, 0),
     RECORD_ROW(ZK_NO_MEMORY, RECORDED_STARVED, "record without memory", 0, PORTS, ROOM),
+    PART_ROW(ZK_NOT_OPEN, CLOSED, "a piece of a record after close", PORTS, 0, ROOM),
+    PART_ROW(ZK_NO_RECORD, OPEN, "a piece of the record of a namespace that isn't recorded", PORTS, 0, ROOM),
+    PART_ROW(ZK_OTHER_PORTS, RECORDED, "a piece of a record without the last port", PORTS - 1, 0, ROOM),
+    PART_ROW(ZK_BUSY, ASKED, "a piece of a record while a command is pending", PORTS, 0, ROOM),
+    PART_ROW(ZK_NO_MEMORY, RECORDED_STARVED, "a piece of a record without memory", PORTS, 0, ROOM),
     OPEN_ROW(ZK_DONE, SHUT, "open", 2, 100, 64, BLOCK, 7, 0, 7, 7),
     OPEN_ROW(ZK_DONE, SHUT, "open without a limit", 2, ZK_NO_LIMIT, 64, BLOCK, 7, 0, 7, 7),
     OPEN_ROW(ZK_DONE, CLOSED, "open again", 2, ZK_MOST_CHANGES, 65536, 4096, 15, 0, 15, 0),
@@ -186,6 +192,7 @@ static const struct row rows[] = {
     NAMESPACE_ROW(ZK_DONE, PENDING, "identify_namespace while a command is pending", ZK_IDENTIFY_BYTES, 65536, 4096, 15, 0, 15, 0),
     READ_NOW_ROW(ZK_DONE, TAKEN, "read_now while the unit is held", 0, 0, BLOCK),
     RECORD_ROW(ZK_DONE, RECORDED, "record", 0, PORTS, ROOM),
+    PART_ROW(ZK_DONE, RECORDED, "a piece of a record", PORTS, 7, BLOCK),
 };
 
 /* What this thread's malloc does: refuse, refuse from the so manyth call on, or stop at the so manyth call and wait. */
@@ -391,6 +398,8 @@ static int call(const struct row *row, struct written *written)
         return zk_read_now(ports, row->first, (uint16_t)row->second, written->data, row->data, &written->status);
     case RECORDS:
         return zk_record(ports + row->first, row->entries, written->data, row->data, &written->length);
+    case RECORDS_PART:
+        return zk_record_part(ports + row->first, row->entries, row->second, written->data, row->data, &written->length);
     }
     return -1;
 }
@@ -503,6 +512,10 @@ static bool nulls_are_answered(void)
         { "record into NULL", ZK_BAD_LENGTH, zk_record(ports, PORTS, NULL, BLOCK, &length) },
         { "record with NULL for its length", ZK_BAD_LENGTH, zk_record(ports, PORTS, block, BLOCK, NULL) },
         { "record into NULL without room", ZK_SHORT_ROOM, zk_record(ports, PORTS, NULL, 0, &length) },
+        { "a piece of the record of NULL", ZK_OTHER_PORTS, zk_record_part(NULL, PORTS, 0, block, BLOCK, &length) },
+        { "a piece into NULL", ZK_BAD_LENGTH, zk_record_part(ports, PORTS, 0, NULL, BLOCK, &length) },
+        { "a piece with NULL for the length", ZK_BAD_LENGTH, zk_record_part(ports, PORTS, 0, block, BLOCK, NULL) },
+        { "a piece into NULL without room", ZK_DONE, zk_record_part(ports, PORTS, 0, NULL, 0, &length) },
     };
     bool right = length > 0;
     for (size_t i = 0; i < sizeof calls / sizeof *calls; i++)
@@ -693,8 +706,8 @@ static bool whole_units_settle(void)
     return right;
 }
 
-/* In a unit of more than 65,536 bytes a block that was written alone is written again, read and compared without memory. Where memory is refused at
- * the nth time to a Write of several blocks, all of them are as they were. */
+/* In a unit of more than 65,536 bytes a block that was written alone is written again, read and compared without memory, and what nobody has written is
+ * zeroed without. Where memory is refused at the nth time to a Write of several blocks, all of them are as they were. */
 static bool large_units(void)
 {
     enum { BLOCKS = 256, SOME = 20 };
@@ -710,6 +723,7 @@ static bool large_units(void)
     memset(data, 4, BLOCK);
     memset(data + 2 * BLOCK, 5, BLOCK);
     right &= status_after(READ, 3, SOME, read, sizeof read) == 0 && memcmp(read, data, sizeof read) == 0;
+    right &= status_after(WRITE_ZEROES, 3 + SOME, BLOCKS - 3 - SOME, NULL, 0) == 0 && status_after(WRITE_ZEROES, 100, 1, NULL, 0) == 0;
     refuses = false;
     memset(read, 6, sizeof read);
     bool done = false;
@@ -784,29 +798,60 @@ static bool waiting_reads_what_is_there(void)
     return true;
 }
 
-/* Where memory is refused at the nth time, a record is refused too, and it can be asked for again: then it is there whole. */
-static bool record_starved(void)
+/* Where memory is refused at the nth time, a record is refused too, and a piece of it, and nothing is written. It can be asked for again: then it is there whole. */
+static bool record_starved(bool in_part)
 {
-    static uint8_t bytes[2][ROOM];
+    static uint8_t bytes[2][ROOM], before[ROOM];
     size_t length[2] = { 0, 0 };
     recorded = true;
+    memset(bytes[1], FILL, ROOM);
+    memset(before, FILL, ROOM);
     if (!open_all(true) || submit(&ports[0], WRITE, 1) != ZK_DONE || submit(&ports[1], READ, 2) != ZK_DONE
-        || submit(&ports[2], WRITE_ZEROES, 0) != ZK_DONE || zk_record(ports, PORTS, bytes[0], ROOM, &length[0]) != ZK_DONE)
+        || submit(&ports[2], WRITE_ZEROES, 0) != ZK_DONE)
         return false;
     for (unsigned nth = 1; nth < 256; nth++) {
         refuses_from = nth;
-        int code = zk_record(ports, PORTS, bytes[1], ROOM, &length[1]);
+        int code = in_part ? zk_record_part(ports, PORTS, 0, bytes[1], ROOM, &length[1]) : zk_record(ports, PORTS, bytes[1], ROOM, &length[1]);
         bool was_refused = refuses_from == 0;
         refuses_from = 0;
         refuses = false;
         if (!was_refused) {
+            bool right = nth > 8 && code == ZK_DONE && zk_record(ports, PORTS, bytes[0], ROOM, &length[0]) == ZK_DONE;
             close_all();
-            return nth > 8 && code == ZK_DONE && length[1] == length[0] && memcmp(bytes[0], bytes[1], length[0]) == 0;
+            return right && length[1] == length[0] && memcmp(bytes[0], bytes[1], length[0]) == 0;
         }
-        if (code != ZK_NO_MEMORY || length[1] != 0)
+        if (code != ZK_NO_MEMORY || length[1] != 0 || memcmp(bytes[1], before, ROOM) != 0)
             return false;
     }
     return false;
+}
+
+/* Pieces put together are the file that zk_record gives, and each tells its length. From its end on nothing is written. */
+static bool pieces_make_the_record(void)
+{
+    static const size_t rooms[] = { 1, 7, 4096 };
+    static uint8_t whole[4 * ROOM], bytes[sizeof whole + 4096];
+    size_t length = 0, told = 0;
+    recorded = true;
+    bool right = open_all(true);
+    for (int i = 0; i < 3 * PORTS; i++)
+        right &= submit(&ports[i % PORTS], i % 2 ? READ : WRITE, 2) == ZK_DONE;
+    right &= zk_record(ports, PORTS, whole, sizeof whole, &length) == ZK_DONE && length > 2 * 4096;
+    for (size_t i = 0; right && i < sizeof rooms / sizeof *rooms; i++) {
+        memset(bytes, FILL, sizeof bytes);
+        for (size_t from = 0; right && from < length; from += rooms[i])
+            right = zk_record_part(ports, PORTS, from, bytes + from, rooms[i], &told) == ZK_DONE && told == length;
+        right &= memcmp(bytes, whole, length) == 0 && bytes[length] == FILL;
+    }
+    static const uint64_t past[] = { 0, 1, UINT64_MAX };
+    for (size_t i = 0; right && i < sizeof past / sizeof *past; i++) {
+        uint64_t from = past[i] == UINT64_MAX ? past[i] : length + past[i];
+        uint8_t byte = FILL;
+        told = 0;
+        right = zk_record_part(ports, PORTS, from, &byte, 1, &told) == ZK_DONE && told == length && byte == FILL;
+    }
+    close_all();
+    return right;
 }
 
 /* Where memory is refused at the nth time, an audit says so and writes nothing. */
@@ -983,8 +1028,12 @@ int main(int words, char **word)
         fprintf(stderr, "misuses: a Read that has to wait isn't answered with what is there then\n");
         right = false;
     }
-    if (!record_starved()) {
+    if (!record_starved(false) || !record_starved(true)) {
         fprintf(stderr, "misuses: a record to which memory is refused\n");
+        right = false;
+    }
+    if (!pieces_make_the_record()) {
+        fprintf(stderr, "misuses: pieces of a record that aren't its file\n");
         right = false;
     }
     if (!audit_starved()) {

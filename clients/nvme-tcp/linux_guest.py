@@ -1,4 +1,4 @@
-"""Machines that QEMU emulates, with Debian's kernel and busybox, for clients/check-linux. They have QEMU's own user network alone: a guest reaches this machine's loopback as
+"""Machines that QEMU emulates, or KVM runs, with Debian's kernel and busybox, for clients/check-linux. They have QEMU's own user network alone: a guest reaches this machine's loopback as
 10.0.2.2, and a port of this loopback can lead to a guest's."""
 
 import contextlib
@@ -87,6 +87,13 @@ def initramfs(kernel, script, modules, files, programs):
     return archived(entries)
 
 
+def accelerators():
+    """The ways to run a guest, the best first: KVM where the processor has virtual machines. A KVM without such a processor is there, too (kvm_pvm), and takes minutes to begin a usual kernel."""
+    with open("/proc/cpuinfo", encoding="utf-8") as file:
+        has_machines = re.search(r"^flags\s*:.* (vmx|svm)\b", file.read(), re.M)
+    return [*(["kvm"] if has_machines and os.access("/dev/kvm", os.R_OK | os.W_OK) else []), "tcg,thread=multi"]
+
+
 class Machine:
     """A guest at work."""
 
@@ -118,8 +125,8 @@ def machine(kernel, folder, script, modules, files=(), programs=(), forward=None
     with contextlib.suppress(FileNotFoundError):
         os.remove(f"{folder}/console.txt")
     lead = f",hostfwd=tcp:127.0.0.1:{forward[0]}-:{forward[1]}" if forward else ""
-    words = ["qemu-system-x86_64", "-accel", "tcg,thread=multi", "-M", "q35", "-cpu", "max", "-m", "1024", "-smp", str(processors), "-display", "none", "-nodefaults", "-no-reboot"]
-    words += ["-serial", f"file:{folder}/console.txt", "-netdev", f"user,id=network{lead}", "-device", "virtio-net-pci,netdev=network"]
+    words = ["qemu-system-x86_64", *(word for way in accelerators() for word in ("-accel", way)), "-M", "q35", "-cpu", "max", "-m", "1024", "-smp", str(processors)]
+    words += ["-display", "none", "-nodefaults", "-no-reboot", "-serial", f"file:{folder}/console.txt", "-netdev", f"user,id=network{lead}", "-device", "virtio-net-pci,netdev=network"]
     words += ["-kernel", kernel.image, "-initrd", f"{folder}/initramfs", "-append", "console=ttyS0 quiet panic=-1 no_timer_check"]
     process = subprocess.Popen(["nice", "-n", "5", *words], stdin=subprocess.DEVNULL)
     try:
