@@ -1,27 +1,29 @@
-/* The media side of an NVM Express controller: a namespace in memory that threads read and change through up to
- * ZK_MOST_PORTS ports. It also has the auditor, which judges the record of a run, and two judges of a device that is not this one: of what its
- * hosts saw, by a record or an order that is to explain it, or by a contradiction that is to refute it. Little-endian 64-bit machines. Link libnvm_c.a and, for malloc and free, the toolchain's liblibc_c.a.
+/* The media side of an NVM Express controller: a namespace in memory, which threads read and change through up to ZK_MOST_PORTS
+ * ports. And judges: zk_audit of the record of a run, zk_witness and zk_refute of what the hosts of any device saw. Little-endian
+ * 64-bit machines. Link libzalkvorn, or libnvm_c.a and, for malloc and free, the toolchain's liblibc_c.a.
  *
- * A thread works through a port. Open a namespace with one port for each thread (or queue, or reactor), and give
- * each thread its own. No call waits, blocks or starts a thread: where another port holds the atomic unit that a
- * command needs, or its region, the answer is ZK_PENDING, and zk_poll goes on later.
+ * A port has one command at a time. No call waits, blocks or starts a thread: where another port has the region that a command
+ * needs (see zk_open), the answer is ZK_PENDING, and zk_poll goes on later. No port has a region between two calls, so where one
+ * thread works with all ports, none finds one taken. Open one port for each thread, queue or reactor, all by one zk_open. Where
+ * there are more queues than ports, take a free port for each command, and give it back after ZK_DONE.
  *
  * What is proved of this library rests on C for four things.
- *   1. A port is in one call at a time, is handed from thread to thread by a lock, a thread's start or join, or a
- *      seq_cst atomic, and is never copied while it is open: a queue keeps a pointer to its port.
+ *   1. A port is in one call at a time, is handed from thread to thread by a lock, a thread's start or join, or a seq_cst atomic
+ *      (not by acquire and release alone), and is never copied while it is open: a queue keeps a pointer to its port.
  *   2. A port is bytes of 0 before it is opened, and nothing but these calls writes to it.
- *   3. Each pointer is good for the length that is passed with it. No two pointers of a call lead to bytes in common, and
- *      nobody else writes to these bytes while the call runs: copy a guest's entries and data out of its memory first. The
- *      library's own functions take no NULL: this header answers it, so a caller by dlsym or another language checks that itself.
- *   4. malloc, realloc and free are a usual allocator's, and no call is made from a signal handler or a forked child.
+ *   3. Each pointer is good for the length that is passed with it. No two pointers of a call lead to bytes in common, and nobody
+ *      else writes to these bytes while the call runs: copy entries and data out of a guest's memory first, and a Read's blocks
+ *      into it afterward.
+ *   4. malloc, realloc and free are a usual allocator's, and no call is made from a signal handler, or from the forked child of a
+ *      process with threads.
  *
- * Commands: Write (01h), Read (02h), Write Uncorrectable (04h), Compare (05h), Write Zeroes (08h) and Dataset Management
- * (09h), and Compare and Write as a fused pair. NSID is 1. Any other opcode, Flush too, ends with status 0/01: a
- * controller answers Flush itself, with 0/00 where its NSID is 1 or FFFFFFFFh, since nothing is cached here. Abort needs no
- * call: a command is done by zk_submit, or by the next zk_poll that finds its region free, so the answer is that it wasn't
- * aborted. PRINFO, PSDT, FUA, LR and DEAC are not looked at.
- * A status is written T/CC, status code type and status code: 0/00 is Successful Completion, 0/06 is Internal Error,
- * 2/81 is Unrecovered Read Error.
+ * Commands: Write (01h), Read (02h), Write Uncorrectable (04h), Compare (05h), Write Zeroes (08h) and Dataset Management (09h),
+ * and Compare and Write as a fused pair: bits 3:0 of ONCS, and bit 0 of FUSES. NSID is 1: write that into the entry where your
+ * namespace has another. Any other opcode, Flush too, ends with status 0/01: answer Flush yourself, with 0/00 where its NSID is
+ * your namespace's or FFFFFFFFh, since nothing is cached here. Answer an Abort that nothing was aborted: a command is done by
+ * zk_submit or by a later zk_poll. PRINFO, PSDT, FUA, LR and DEAC are not looked at.
+ * A status is written T/CC, status code type and status code: 0/00 is Successful Completion, 0/06 is Internal Error, 2/81 is
+ * Unrecovered Read Error.
  */
 #ifndef ZALKVORN_H
 #define ZALKVORN_H
@@ -34,14 +36,14 @@
 extern "C" {
 #endif
 
-/* The version of this header. zk_version() gives that of the library; the two must be equal. */
+/* The version of this header, and the number behind libzalkvorn.so. The library's, zk_version(), must be equal. */
 #define ZK_VERSION 6
 
 /* The most blocks of a namespace, and of one that is recorded. */
 #define ZK_MOST_BLOCKS (UINT64_C(1) << 40)
 #define ZK_MOST_RECORDED_BLOCKS 65536
 
-/* The most ports of a namespace, and the most changes of an atomic unit that a record can have. */
+/* The most ports of a namespace: the proofs and the record's file count so far. The most changes of an atomic unit in a record. */
 #define ZK_MOST_PORTS 64
 #define ZK_MOST_CHANGES 4194304
 
@@ -62,16 +64,14 @@ extern "C" {
 #define ZK_NO_LENGTH SIZE_MAX
 
 /* What a call answers. Only with ZK_DONE and ZK_PENDING was anything done, and only with ZK_DONE is anything written, but for
- * zk_record's length and the line of zk_audit, zk_witness and zk_refute. */
+ * zk_record's length and the line of zk_audit, zk_witness and zk_refute. This is not said again below. */
 enum zk_code {
     ZK_DONE = 0,          /* It was done. */
     ZK_PENDING = 1,       /* The command is not done yet: call zk_poll. */
     ZK_NOT_OPEN = 2,      /* The port is not open. */
     ZK_IS_OPEN = 3,       /* One of the ports is open. */
     ZK_NO_MEMORY = 4,     /* malloc refused before anything was done. */
-    ZK_BAD_NAMESPACE = 5, /* There is no namespace of these numbers: nsze is not 1 to ZK_MOST_BLOCKS, or nabsn is 0 and nsze is 2^32 or more; block_size
-                           * is neither 512 nor 4,096; nabsn is 0 and nabo is not; nabsn is not 0, and nabo, nawun or nacwu is above it. Or a
-                           * limit is asked for, and nsze is above ZK_MOST_RECORDED_BLOCKS, or there are more than 4,096 atomic units. */
+    ZK_BAD_NAMESPACE = 5, /* There is no namespace of these numbers: see struct zk_namespace. */
     ZK_BAD_PORTS = 6,     /* There are no ports, or more than ZK_MOST_PORTS. */
     ZK_BAD_LIMIT = 7,     /* The limit is above ZK_MOST_CHANGES. */
     ZK_BAD_LENGTH = 8,    /* Entries, data or completions of another length than the command calls for. */
@@ -94,8 +94,7 @@ enum zk_code {
     ZK_BAD_CONTRADICTION = 25 /* The bytes are not those of a contradiction file. */
 };
 
-/* A port. Its bytes are the library's own. There are 64 of them, so that neighboring ports of an array, which threads use at the same
- * time, share no cache line. */
+/* A port: 64 bytes of the library's own, so that neighbors in an array, which threads use at the same time, share no cache line. */
 struct zk_port {
     uint64_t opaque[8];
 };
@@ -103,9 +102,9 @@ struct zk_port {
 /* A port that is not open. */
 #define ZK_PORT_INIT { { 0 } }
 
-/* What a namespace advertises. NABSN, NAWUN and NACWU are 0's based values, as in Identify Namespace; a NABSN of 0 is
- * no boundary, and then NABO is 0 and nsze below 2^32. Else NABO, NAWUN and NACWU are at most NABSN. A namespace has 1 to ZK_MOST_BLOCKS
- * blocks of 512 or 4,096 bytes. One that is recorded has at most ZK_MOST_RECORDED_BLOCKS, and at most 4,096 atomic units. */
+/* What a namespace advertises: 1 to ZK_MOST_BLOCKS blocks of 512 or 4,096 bytes. NABSN, NAWUN and NACWU are 0's based values, as
+ * in Identify Namespace. A NABSN of 0 is no boundary, and then NABO is 0 and nsze below 2^32; else NABO, NAWUN and NACWU are at
+ * most NABSN. One that is recorded has at most ZK_MOST_RECORDED_BLOCKS, and at most 4,096 atomic units. */
 struct zk_namespace {
     uint64_t nsze;       /* blocks */
     uint32_t block_size; /* bytes of a block */
@@ -118,34 +117,41 @@ struct zk_namespace {
 /* The library's version. Any thread, any time. */
 uint32_t zk_version(void);
 
-/* Opens `count` ports on a new namespace whose blocks are zero bytes. With a `limit` of ZK_NO_LIMIT it keeps its blocks and nothing
- * of its past, so it can run for as long as you like.
+/* Opens `count` ports on a new namespace whose blocks are zero bytes. Several namespaces may be open at once.
  *
- * Its atomic units are kept in at most 4,096 regions, each of a row of whole units: of one unit where there are no more units than that,
- * and else of the least number that makes so few. One port at a time works in a region: what needs it meanwhile is pending, and zk_poll tries it
- * again. A namespace without a boundary is one unit, and so one region: advertise boundaries where several ports are to work at once.
- * Memory is taken for what is written. A block that nobody has written is zeroes; opening takes up to 2 KiB for each region, and some
- * 70 bytes for each region and port. A region of more than 65,536 bytes keeps its blocks by eight: a Write Zeroes or Deallocate takes no memory for eight of which it changes none that
- * was written, and leaves some 50 bytes a block where one was. A command that changes several blocks of such a region makes some 50 bytes for each anew, and
- * copies up to 2 KiB of the tree above them; with `versions` one that changes a block may, too.
- * No call is broken off: a Dataset Management of 256 ranges may name all blocks, and takes a step for each unit that they are in.
+ * An atomic unit is the blocks from one boundary to the next, and without a boundary all blocks. A command is one step in each
+ * unit that it touches, in ascending order, up to the first in which it fails; steps of other ports may come in between. Where
+ * memory is refused in the midst it ends with status 0/06, and what it did in other units stays done.
+ * Units are kept in at most 4,096 regions: one in each where there are no more units, and else as few in each as that takes. One
+ * port at a time works in a region, so advertise boundaries where several ports are to work at once.
+ * No call is broken off. A Dataset Management of 256 ranges may name all blocks, and walks over its ranges for each unit that
+ * they are in. To bound that, look at NR and the ranges before you submit it.
  *
- * With a `limit` of 1 to ZK_MOST_CHANGES it is recorded: each port keeps each command that it did, with its data, what it read and
- * how it ended, for zk_record. Memory grows with each command; a large limit reserves nothing. After ZK_MOST_JOBS of all ports together no more is kept, and
- * zk_record answers ZK_RECORD_FULL. Each atomic unit can be changed `limit` times; a command counts once in each unit that it
- * changes. A change beyond that ends with status 0/06, and the unit's blocks stay as they were.
+ * A `limit` of ZK_NO_LIMIT: the namespace keeps its blocks and nothing of its past, so it can run for as long as you like.
+ * A `limit` of 1 to ZK_MOST_CHANGES: it is recorded, for zk_record. Each port keeps each command that it did, with its data, what
+ * it read and how it ended, so memory grows with each; a large limit reserves nothing. A unit can be changed `limit` times, where
+ * a command counts once in each unit that it changes. A change beyond that ends with status 0/06, and the unit stays as it was.
+ * After ZK_MOST_JOBS of all ports together no more is kept, and zk_record answers ZK_RECORD_FULL.
+ * `versions`: each port keeps, of each region, the data as it last saw it, for zk_read_now, until it works there again.
  *
- * In both, a command that finds no memory once it is under way ends with status 0/06. What it did in other units by then stays
- * done. Without `versions` a region of at most 65,536 bytes keeps its blocks in one piece of memory. Its first Write takes it, a Write
- * Zeroes or Deallocate of all the blocks gives it back, and a first Write Uncorrectable moves the blocks elsewhere for good: as they are then
- * they stay in memory until each was changed again. There, and in any larger region, the data of a Write stays in memory until each of its blocks
- * was changed again, so at worst each block holds the longest Write that you submit. With ZK_NO_LIMIT each port also keeps,
- * until zk_close, room for the longest data of a Write or Compare in one unit that it was given, and of a pair for its Compare's
- * too: a command that has to wait for its region keeps its data there.
- * With `versions` each port also keeps, of each region, the data as it last saw it, for zk_read_now, until it works there again.
+ * Memory, beside what records and versions keep:
+ *   - Opening takes up to 7 KiB for each region, and some 70 bytes for each region and port. Blocks that nobody has written take
+ *     none.
+ *   - A region of at most 65,536 bytes, without `versions`, is one piece of memory, which its first Write takes and a Write
+ *     Zeroes or Deallocate of all its blocks gives back. A first Write Uncorrectable makes it a tree for good; the piece stays
+ *     until each of its blocks was changed again.
+ *   - Any other region is a tree, by eight blocks. The data of a Write stays until each of its blocks was changed again: at worst
+ *     each block holds the longest Write that you submit. A Write Zeroes or Deallocate takes no memory for eight of which it
+ *     changes none that was written, and leaves some 50 bytes a block where one was. A command that changes several blocks makes
+ *     some 50 bytes for each anew, and copies up to 7 KiB of the tree; with `versions` one that changes a block may, too.
+ *   - With ZK_NO_LIMIT a port keeps, until zk_close, room for the longest data of a Write or Compare in one unit that it was
+ *     given, and of a pair's Compare too: a command that has to wait for its region keeps its data there.
+ *   - With ZK_NO_LIMIT and without `versions`, these take none beyond that if they lie in one unit: a Read, whose blocks go
+ *     straight into `data`, and a Compare; a Write, Write Zeroes or pair in a region of one piece; and in a tree one of one
+ *     block, where that holds the data of a Write of one block. A command in several units takes some, and one with data that a
+ *     check refuses.
  *
- * ZK_DONE; or ZK_IS_OPEN, ZK_BAD_PORTS, ZK_BAD_NAMESPACE, ZK_BAD_LIMIT or ZK_NO_MEMORY, tried in this order, and every
- * port is as it was.
+ * ZK_DONE; or ZK_IS_OPEN, ZK_BAD_PORTS, ZK_BAD_NAMESPACE, ZK_BAD_LIMIT or ZK_NO_MEMORY, tried in this order.
  * Threads: nobody else uses these ports during the call. */
 int zk_open(struct zk_port *ports, size_t count, const struct zk_namespace *ns, uint32_t limit, bool versions);
 
@@ -157,65 +163,61 @@ int zk_close(struct zk_port *port);
 
 /* Does a command, or as much of it as can be done without waiting.
  *
- * `entries` is one submission queue entry of 64 bytes, or two that are a fused Compare and Write. `data` is what the
- * command carries: the blocks of a Write or a Compare, the ranges of a Dataset Management, for a pair those of the
- * first entry and then those of the second. For a Read it is room for its blocks. A command without data takes
- * NULL or any pointer, and a length of 0. `completions` is room for a completion queue entry of 16 bytes for
- * each entry.
+ * `entries` is one submission queue entry of 64 bytes, or two that are a fused Compare and Write, and `completions` is room for
+ * 16 bytes for each. `data` is one piece of memory, of the length that zk_data_length gives: what the command carries, gathered
+ * from the host's PRPs or SGL, for a pair that of the first entry and then that of the second; for a Read, room for its blocks.
+ * Without data it is NULL or any pointer, of length 0. The length is looked at before the command is checked, so apply your
+ * controller's transfer limit first.
  *
- * ZK_DONE: the completions are written, and after a Read of status 0/00 its blocks. How the command ended, an unknown
- * opcode or an LBA out of range included, is the status there. The SQ identifier is the port's place in zk_open,
- * from 1: set your own where that is another. The SQ head pointer, the phase tag and DNR are 0 and yours to set.
- * ZK_PENDING: the command stays in the port and nothing was written yet. The entries and data may be reused.
- * With ZK_NO_LIMIT and without versions a Read or Compare that lies in one atomic unit takes no memory in the long run, and a
- * Read's blocks are written straight into `data`. Nor do a Write, Write Zeroes or fused pair there, if the unit's region has at most 65,536 bytes and
- * none of its blocks was ever marked; in any other region one of one block takes none, where the block's data is that of a Write of one block.
- * Memory is taken for data longer than the port had before, for a region's first Write, also the first after a Write Zeroes or Deallocate of all
- * the region's blocks, and by a command in several units, or one with data that a check refuses.
- * ZK_NOT_OPEN, ZK_BUSY, ZK_BAD_LENGTH, ZK_NO_PAIR, ZK_NO_MEMORY: nothing was done and nothing was written. The length of
- * the data is asked for before a command is checked, so apply the transfer limit of your controller first. An opcode that
- * is not served carries no data. Any two entries with FUSE 01b and 10b and served opcodes are a pair: what is wrong with it is in its
- * statuses. The first of a pair by itself is a command with status 0/0a.
+ * ZK_DONE: the completions are written, and after a Read of status 0/00 its blocks. How the command ended, an unknown opcode or
+ * an LBA out of range included, is the status there. The SQ identifier is the port's place in zk_open, from 1, and the SQ head
+ * pointer, the phase tag and DNR are 0: set your own. The first of a pair by itself ends with status 0/0a.
+ * ZK_PENDING: the command stays in the port, and some of its steps may be done. The entries and data may be reused.
+ * ZK_BAD_LENGTH: answer a guest 0/02. ZK_NO_PAIR: submit each of the two by itself; whatever else is wrong with a pair is in its
+ * statuses. ZK_NO_MEMORY: answer 0/06. ZK_NOT_OPEN, ZK_BUSY.
  * Threads: one call at a time on a port; ports of one namespace may be used at the same time. */
 int zk_submit(struct zk_port *port, const uint8_t *entries, size_t entries_length, uint8_t *data, size_t data_length,
               uint8_t *completions, size_t completions_length);
 
-/* How many bytes of data zk_submit takes with `count` entries, 1 or 2, in a namespace of blocks of `block_size` bytes: neither more nor less. A Write or a
- * Compare carries NLB + 1 blocks, and a Read by itself wants room for as many; a Dataset Management carries 16 bytes for each of its NR + 1 ranges, and any
- * other opcode nothing. Two entries carry what the first carries and what the second does, in which a Read has nothing. It is the same where the command or the
- * pair is refused later. A host may send more with a Dataset Management, and Linux does: hand on the first of them.
- * ZK_NO_LENGTH: there is no namespace of such blocks, or `count` is neither 1 nor 2, and zk_submit takes no data of any length.
+/* The one length of `data` that zk_submit takes with `count` entries, 1 or 2, in a namespace of blocks of `block_size` bytes: NLB
+ * + 1 blocks for a Write, Compare or Read, 16 bytes for each of the NR + 1 ranges of a Dataset Management, and 0 for any other
+ * opcode. Of two entries it is the sum, in which a Read has nothing. It is the same where the command is refused later. Linux's
+ * host sends more with a Dataset Management: pass on its front.
+ * ZK_NO_LENGTH: there is no namespace of such blocks, or `count` is neither 1 nor 2.
  * It takes no memory.
  * Threads: any thread, any time. It uses no port. */
 size_t zk_data_length(const uint8_t *entries, size_t count, uint32_t block_size);
 
-/* Goes on with the command that is pending in the port. The buffers are as in zk_submit; those of a Read need at
- * least the room of its blocks, and any other command's data is not looked at. A thread that has nothing else to do calls
- * sched_yield() before it polls again: the port that holds the region may not be running. It isn't promised that a pending
- * command ever ends: others may have its region at each poll.
- * ZK_DONE and ZK_PENDING as in zk_submit. ZK_NOT_OPEN, ZK_IDLE, ZK_BAD_LENGTH: nothing was done, and a pending command
- * is still pending.
+/* Goes on with the command that is pending in the port. `completions` is as in zk_submit. `data` is at least room for a Read's
+ * blocks; with any other command it is not looked at. A thread that has nothing else to do calls sched_yield() before it polls
+ * again: the port that has the region may not be running. It isn't promised that a pending command ever ends: others may have its
+ * region at each poll.
+ * ZK_DONE and ZK_PENDING as in zk_submit. ZK_NOT_OPEN, ZK_IDLE, ZK_BAD_LENGTH: a pending command is still pending.
  * Threads: as zk_submit. */
 int zk_poll(struct zk_port *port, uint8_t *data, size_t data_length, uint8_t *completions, size_t completions_length);
 
-/* Writes the Identify Namespace data structure of the port's namespace: NSZE, NAWUN, NACWU, NABSN and NABO at their
- * places, and bit 1 of NSFEAT, which says that the namespace has atomic limits of its own. All other bytes are 0, and
- * yours to set: NCAP and NUSE (bytes 8 and 16), which are NSZE; bits 2:0 of DLFEAT (byte 33), 001b, since deallocated blocks
- * read as 0; LBADS of LBA format 0 (byte 130), 9 or 12; and where you have them, bit 0 of NMIC (byte 30) for several
- * controllers, and NGUID or EUI64 (bytes 104 and 120). NAWUPF and NABSPF stay 0: nothing outlives a power failure. A NAWUN or
- * NACWU of 0 stands for AWUN or ACWU of the controller there, so report 0 in those. The page never changes. `data` is
- * ZK_IDENTIFY_BYTES long.
- * What Linux's host makes of it, from memory of its source, and never tried: its atomic writes are to outlive a power failure, so it goes by NAWUPF and NABSPF, where NABO is 0, and not by
- * NAWUN and NABSN; where NAWUPF is 0 it goes by AWUPF of the controller, and with 0 in that too a single block is atomic. A guest that is killed tears nothing, and with
- * this process all blocks are gone, so where you write nothing back to a disk NAWUN and NABSN can stand there too: that is your promise, and not this library's. Of DLFEAT it
- * makes use where bit 3 is set beside 001b: then it sets DEAC in Write Zeroes, which changes nothing here. By NGUID or EUI64 it names the disk in /dev/disk/by-id, and
- * knows it on another path or after a reset: choose bytes that no other namespace has.
- * ZK_DONE. ZK_NOT_OPEN, ZK_BAD_LENGTH: nothing was written.
+/* Writes the Identify Namespace data structure of the port's namespace into `data`, of ZK_IDENTIFY_BYTES: NSZE, NAWUN, NACWU,
+ * NABSN and NABO, bit 1 of NSFEAT, which says that the namespace has atomic limits of its own, and else bytes of 0. It never
+ * changes. Yours to set:
+ *   - NCAP and NUSE (bytes 8 and 16): NSZE. LBADS of LBA format 0 (byte 130): 9 or 12.
+ *   - Bits 2:0 of DLFEAT (byte 33): 001b, since deallocated blocks read as 0.
+ *   - Bit 0 of NMIC (byte 30), where several controllers have it.
+ *   - NGUID or EUI64 (bytes 104 and 120), where you have them: bytes that no other namespace has.
+ *   - AWUN or ACWU of Identify Controller: 0 where NAWUN or NACWU is 0, which stands for it.
+ *   - NAWUPF and NABSPF: 0, since nothing outlives a power failure. Where you write nothing back to a disk they can be NAWUN and
+ *     NABSN, since a guest that is killed tears nothing and all blocks are gone with this process; that is your promise, not the
+ *     library's.
+ * Linux 6.1's host was tried with the pages of clients/nvme-tcp (target-pages.c, target-media.c), which name the namespace by a
+ * UUID in the list of CNS 03h. From memory of its source, and not tried: its atomic writes go by NAWUPF and NABSPF, where NABO is
+ * 0, and by AWUPF where NAWUPF is 0, and with 0 there too a single block is atomic; with bit 3 of DLFEAT beside 001b it sets
+ * DEAC, which changes nothing here; by NGUID or EUI64 it names the disk in /dev/disk/by-id, and knows it on another path or after
+ * a reset.
+ * ZK_DONE. ZK_NOT_OPEN, ZK_BAD_LENGTH.
  * Threads: as zk_submit. */
 int zk_identify(struct zk_port *port, uint8_t *data, size_t data_length);
 
-/* Writes the same bytes, from the numbers with which the namespace is opened: for a controller whose admin queue has no port. It takes no memory.
- * ZK_DONE. ZK_BAD_NAMESPACE or ZK_BAD_LENGTH, tried in this order: nothing was written.
+/* Writes the same bytes from the numbers of a namespace, for an admin queue, which has no port. It takes no memory.
+ * ZK_DONE. ZK_BAD_NAMESPACE or ZK_BAD_LENGTH, tried in this order.
  * Threads: any thread, any time. It uses no port. */
 int zk_identify_namespace(const struct zk_namespace *ns, uint8_t *data, size_t data_length);
 
@@ -228,8 +230,8 @@ struct zk_status {
 /* Answers a Read of `nlb` + 1 blocks inside one atomic unit from what the port keeps, without taking the unit: even
  * while another port has it. The port has to have seen the last change of the unit's region; a command of its own on the unit makes it
  * current. `data` is room for exactly these blocks.
- * ZK_DONE: the status is written, and with 0/00 the blocks. ZK_NOT_OPEN, ZK_BUSY, ZK_NO_VERSIONS, ZK_BAD_LENGTH,
- * ZK_OUT_OF_RANGE, ZK_CROSSES, ZK_NEWER, ZK_NO_MEMORY: nothing was written.
+ * ZK_DONE: the status is written, and with 0/00 the blocks. ZK_NOT_OPEN, ZK_BUSY, ZK_NO_VERSIONS, ZK_BAD_LENGTH, ZK_OUT_OF_RANGE,
+ * ZK_CROSSES, ZK_NEWER, ZK_NO_MEMORY.
  * Threads: as zk_submit. */
 int zk_read_now(struct zk_port *port, uint64_t slba, uint16_t nlb, uint8_t *data, size_t data_length,
                 struct zk_status *status);
@@ -238,84 +240,88 @@ int zk_read_now(struct zk_port *port, uint64_t slba, uint16_t nlb, uint8_t *data
 #define ZK_LINE_BYTES 128
 
 /* Judges the record of a run by its file: whether in each atomic unit all answers together are those of a store that does one
- * command at a time. A job that ended with 0/06 is excused: look at the number after `refused`. `bytes` is the whole file, of either version, as `nvmu run` writes it; docs/FORMATS.md has its fields. `line` is room for
- * a line of ASCII that ends with a newline and a byte of 0, ZK_LINE_BYTES at most.
+ * command at a time. A job that ended with 0/06 is excused: look at the number after `refused`. `bytes` is the whole file, NVR1
+ * or NVR2, as `nvmu run` or zk_record writes it; docs/FORMATS.md has its fields. `line` is room for a line of ASCII with a
+ * newline and a byte of 0, ZK_LINE_BYTES at most. A line is never cut.
  * ZK_DONE: the record is lawful, and the line says what was in it, as `nvmu audit` does:
  *     lawful jobs 7 units 2 changes 12 refused 0
  * ZK_UNLAWFUL: the line has its first fault, as `nvmu audit` prints it:
  *     unlawful DataWrong job 0 unit 1 place 8
  * ZK_BAD_RECORD: there is no record in these bytes, and the line says why, as `nvmu` does after its name:
  *     record: truncated at 100
- * ZK_SHORT_ROOM, ZK_NO_MEMORY: nothing was written. A line is never cut.
- * It takes some memory for each byte of the file, and gives it back. It starts no thread, and waits for nothing.
+ * ZK_SHORT_ROOM, ZK_NO_MEMORY. It takes some memory for each byte of the file, and gives it back.
  * Threads: any thread, any time. It uses no port. */
 int zk_audit(const uint8_t *bytes, size_t length, char *line, size_t room);
 
-/* Judges a trace, which is what the hosts of any device sent and saw, by a record or an order of what the device may have done inside. `trace` is the whole
- * file, as `nvq trace` or a test bench of yours writes it, and `evidence` that of a record, of either version, as `nvmu run` and zk_record write it, or, without `strict`, that of an
- * order, as `nvq certify --evidence` writes it. docs/FORMATS.md has the fields of each. `line` is as in zk_audit.
- * Where a record explains the trace, each atomic unit can have behaved as a store that does one step at a time, each between the beginning and the end of its command. With `strict`
- * each command is one step in each unit, as those of this library are; without it, a Write that the standard lets a device tear may be. A deallocated block is zeroes in each record.
- * Where an order explains it, what the hosts saw can be explained by docs/STANDARD.md, held to what stands in the order; `by-blocks` asks less than the standard.
- * ZK_DONE: it explains the trace, and the line has the numbers, as `nvmu witness` prints them. Of a record look at the number after `excused`: it counts
- * the jobs that never ended, or ended with a reply that does not say what was done:
+/* Judges a trace, which is what the hosts of any device sent and saw, by what the device may have done inside. `trace` is the
+ * whole file, as `nvq trace` or a test bench of yours writes it. `evidence` is that of a record, as in zk_audit, or, without
+ * `strict`, that of an order, as `nvq certify --evidence` writes it. docs/FORMATS.md has the fields of each. `line` is as in
+ * zk_audit.
+ * Where a record explains the trace, each atomic unit can have behaved as a store that does one step at a time, each between the
+ * beginning and the end of its command. With `strict` each command is one step in each unit, as those of this library are;
+ * without it, a Write that the standard lets a device tear may be. A deallocated block is zeroes in each record.
+ * Where an order explains it, docs/STANDARD.md explains what the hosts saw, held to what stands in the order; `by-blocks` asks
+ * less than the standard.
+ * ZK_DONE: it explains the trace, and the line has the numbers, as `nvmu witness` prints them. Of a record look at the number
+ * after `excused`, of jobs that never ended, or whose reply does not say what was done:
  *     explained jobs 3 units 1 steps 4 excused 0 preparations 0
  *     explained jobs 3 points 4 reads atomic deallocated either
  * ZK_UNEXPLAINED: this record or order does not explain it, and the line has a fault. Another may:
  *     unexplained ReplyDiffers job 0 unit - place -
  *     unexplained FindsOther position 1
- * ZK_BAD_TRACE, and if that is a trace ZK_BAD_RECORD: the bytes are no such file, and the line says why, as `nvmu` does after its name:
+ * ZK_BAD_TRACE, and if that is a trace ZK_BAD_RECORD: the bytes are no such file, and the line says why, as `nvmu` does after its
+ * name:
  *     trace: truncated at 100
  *     order: bad value at 4
- * ZK_SHORT_ROOM, ZK_NO_MEMORY: nothing was written. A line is never cut.
- * It takes some memory for each byte of the files, and gives it back. It starts no thread, waits for nothing, and keeps no pointer.
- * Threads: any thread, any time. It uses no port. */
+ * ZK_SHORT_ROOM, ZK_NO_MEMORY, memory and threads: as in zk_audit. It keeps no pointer. */
 int zk_witness(const uint8_t *trace, size_t trace_length, const uint8_t *evidence, size_t evidence_length, bool strict, char *line, size_t room);
 
-/* Judges a trace by a contradiction: a list of facts, of which each follows from the trace and those before it, and a conclusion that can't be. `trace` and
- * `line` are as in zk_witness, and `contradiction` is the whole file, as `nvq certify --evidence` writes it. In that stands what the device is held to.
- * ZK_DONE: nothing that a device may do explains the trace, held to that, by docs/STANDARD.md. By `atomic` or `by-blocks`, and `either` or what DLFEAT promises, the device is
- * wrong, or the trace is not what its hosts saw; `whole`, `atomic-all`, and `zeroes` or `ones` without DLFEAT, ask more than the standard says. The line has the number of commands that the contradiction names and of its facts, as `nvmu refute`
- * prints them; or, where a pair's two statuses contradict each other, whatever the contradiction says, the number of that job:
+/* Judges a trace by a contradiction: a list of facts, each of which follows from the trace and those before it, and a conclusion
+ * that can't be. `trace` and `line` are as in zk_witness, and `contradiction` is the whole file, as `nvq certify --evidence`
+ * writes it. It says what the device is held to.
+ * ZK_DONE: held to that, nothing that docs/STANDARD.md lets a device do explains the trace. With `atomic` or `by-blocks`, and
+ * `either` or what DLFEAT promises, the device is wrong, or the trace is not what its hosts saw; `whole`, `atomic-all`, and
+ * `zeroes` or `ones` without DLFEAT ask more than the standard. The line has the numbers of the contradiction's commands and
+ * facts, as `nvmu refute` prints them; or, where a pair's two statuses contradict each other, whatever the contradiction says,
+ * the number of that job:
  *     refuted commands 2 facts 2 reads atomic deallocated either
  *     refuted job 0
  * ZK_UNREFUTED: the contradiction does not show that, and the line says why. Nothing is known of the trace:
  *     unrefuted FactWrong fact 2
  * ZK_BAD_TRACE, and if that is a trace ZK_BAD_CONTRADICTION: the bytes are no such file, and the line says why:
  *     contradiction: truncated at 4
- * ZK_SHORT_ROOM, ZK_NO_MEMORY: as in zk_witness, and so are memory and threads. */
+ * ZK_SHORT_ROOM, ZK_NO_MEMORY, memory and threads: as in zk_witness. */
 int zk_refute(const uint8_t *trace, size_t trace_length, const uint8_t *contradiction, size_t contradiction_length, char *line, size_t room);
 
-/* Gives the record of all that the ports of a namespace did since zk_open, as the bytes of a record file: a command that a check
- * refused is in it, and what zk_read_now answered is not. `ports` are all ports of one namespace, open, in the order in which zk_open
- * had them, and none has a command pending. They stay open and as they are: the run may go on, and be recorded again. The record is
- * audited before it is given, by the audit that zk_audit makes; write the bytes to a file, and `nvmu audit`, `nvq explain` and
- * `nvq-view` read it.
+/* Gives the record of all that the ports of a namespace did since zk_open, as the bytes of a record file, which `nvmu audit`,
+ * `nvq explain` and `nvq-view` read. A command that a check refused is in it, and what zk_read_now answered is not. `ports` are
+ * all ports of one namespace, open, in the order of zk_open, none with a command pending. They stay as they are: the run may go
+ * on, and be recorded again. A port that was closed is missing, and what it did is lost: close the ports after the record. It is
+ * audited, as by zk_audit, before it is given.
  * ZK_DONE: the file stands in the front of `bytes`, and `*length` is how long it is.
- * ZK_SHORT_ROOM: the room is shorter than the file. `*length` is how long that is, and nothing else is written. So a first call with a
- * `room` of 0 asks for the length; it takes the time of an audit, and no memory for the file.
- * ZK_NOT_OPEN, ZK_NO_RECORD, ZK_BUSY, ZK_RECORD_FULL: so it is with one of the ports. ZK_OTHER_PORTS: a port is missing, comes twice, stands
- * at another's place, or is of another namespace. ZK_NO_MEMORY: malloc refused. ZK_UNLAWFUL: what was gathered is no lawful record, which
- * no run should come to. After each of these nothing is written, nothing is lost, and it can be called again.
- * It takes some memory for each command, up to three times that of the file, as far as the room reaches, and on the way that of the data of one Read; and
- * gives it back. Of a long run take the file by zk_record_part. It starts no thread, and waits for nothing. A port that was closed
- * is missing, and what it did is lost: close the ports after the record.
+ * ZK_SHORT_ROOM: the room is shorter than the file, which has `*length` bytes. So a first call with a `room` of 0 asks for the
+ * length; it takes the time of an audit, and no memory for the file.
+ * ZK_NOT_OPEN, ZK_NO_RECORD, ZK_BUSY, ZK_RECORD_FULL: so it is with one of the ports. ZK_OTHER_PORTS: a port is missing, comes
+ * twice, stands at another's place, or is of another namespace. ZK_NO_MEMORY: malloc refused. ZK_UNLAWFUL: what was gathered is
+ * no lawful record, which no run should come to. After each of these nothing is lost, and it can be called again.
+ * While it runs it takes some memory for each command, the data of one Read, and up to three times the bytes of the file that fit
+ * the room. Of a long run take the file by zk_record_part.
  * Threads: nobody else uses these ports during the call. */
 int zk_record(struct zk_port *ports, size_t count, uint8_t *bytes, size_t room, size_t *length);
 
-/* Gives a piece of the file that zk_record gives: its bytes from place `from` on, as many as there are and as there is room for.
- * ZK_DONE: the piece stands in the front of `bytes`, and `*length` is how long the whole file is. With a `room` of 0, and from the end of the file on,
- * the length is told and nothing else is written.
- * Else it answers as zk_record, but never ZK_SHORT_ROOM, and nothing is written.
- * The record is gathered and audited at each call, so take large pieces, such as 16 MiB. They are pieces of one file where no port did anything in between:
- * then put together they are what zk_record gives.
- * It takes memory as zk_record does, for the piece and not for the file: so what it takes grows with the number of commands, and not with their data.
+/* Gives a piece of the same file: its bytes from place `from` on, as many as there are and as there is room for.
+ * ZK_DONE: the piece stands in the front of `bytes`, and `*length` is how long the whole file is. With a `room` of 0, and from
+ * the end of the file on, only the length is written. Else it answers as zk_record, but never ZK_SHORT_ROOM.
+ * Each call gathers and audits the record anew, so take large pieces, such as 16 MiB. They are pieces of one file where no port
+ * did anything in between. The memory is that of zk_record with the piece for the file: it grows with the number of commands, and
+ * not with their data.
  * Threads: as zk_record. */
 int zk_record_part(struct zk_port *ports, size_t count, uint64_t from, uint8_t *bytes, size_t room, size_t *length);
 
-/* NULL, which the library's own functions don't take, is answered here. A port that is NULL is not open; ports that are NULL are none. A
- * buffer that is NULL has no room: where its length is above 0, or the call has to write to it, the answer is ZK_BAD_LENGTH, and
- * for the line of zk_audit, zk_witness and zk_refute ZK_SHORT_ROOM. A namespace that is NULL has no numbers, and entries that are NULL are none. */
+/* The library's own functions take no NULL: it is answered here, so a caller by dlsym or another language checks that itself. A
+ * port that is NULL is not open; ports that are NULL are none. A buffer that is NULL has no room: where its length is above 0, or
+ * the call has to write to it, the answer is ZK_BAD_LENGTH, and for the line of zk_audit, zk_witness and zk_refute ZK_SHORT_ROOM.
+ * A namespace that is NULL has no numbers, and entries that are NULL are none. */
 static inline int zk_open_or_null(struct zk_port *ports, size_t count, const struct zk_namespace *ns, uint32_t limit, bool versions)
 {
     return !ports ? ZK_BAD_PORTS : !ns ? ZK_BAD_NAMESPACE : zk_open(ports, count, ns, limit, versions);

@@ -1,6 +1,6 @@
 -- What a window keeps of bytes that come one after the other.
-use Rattle.std.proofs.Common.{◌≡◌, ◌∙◌, ◌++◌, ℕ, ◌+◌, ◌-◌, List, [], ◌∷◌, length, take, drop, min, zero, suc, ap, sym, refl, arith}
-use Rattle.std.proofs.lemmas.List.{length-take, take_all}
+use Rattle.std.proofs.Common.{◌≡◌, ◌∙◌, ◌++◌, ℕ, ◌-◌, List, [], ◌∷◌, length, take, drop, zero, suc, ap, refl, arith}
+use Rattle.std.proofs.lemmas.List.{length-take}
 use Rattle.nvm_c.specs.Inside.Pieces.{piece_of}
 use Rattle.nvm_c.specs.Inside.Window.{IsHanded}
 use Rattle.nvm_c.specs.Told.{overwritten}

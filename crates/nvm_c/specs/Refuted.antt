@@ -7,7 +7,7 @@ use Rattle.nvm_evidence.specs.ContradictionReading.{IsContradictionFile, contrad
 use Rattle.nvm_evidence.specs.Refuted.{IsRefuted as IsRefutedBy}
 use Rattle.nvm_evidence.specs.RefutedLine.{refuted_line}
 use Rattle.nvm_evidence.specs.declared.evidence_fault.EvidenceFault.{EvidenceFault}
-use Rattle.nvm_evidence.specs.declared.held_contradiction.HeldContradiction.{HeldContradiction}
+use Rattle.nvm_evidence.specs.declared.evidence.HeldContradiction.{HeldContradiction}
 use Rattle.nvm_evidence.specs.declared.refuted.Refuted.{Refuted as Answer}
 use Rattle.nvm_evidence.specs.declared.refuted.Refuted.TheVariants as come_to
 use Rattle.nvm_c.specs.UnreadTrace.{evidence_fault_line, trace_fault_line}

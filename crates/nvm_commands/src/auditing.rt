@@ -17,6 +17,7 @@ use nvm_listing::{all_faults, list_faults};
 use nvm_record::{NoMemory, Payload};
 use nvm_trace::{Judging, Trace};
 use std::alloc::{AllocError, Global};
+use std::mem::forget;
 use std::rt::Files;
 use std::thread::Threads;
 
@@ -62,6 +63,7 @@ fn audited<R: AllocGlobal + Files + Input + Eprint + Threads + Sync>(
     let judged = judge_watched(rt, rt.alloc(), &run, progress)?;
     let text = told(rt.alloc(), telling, &judged)?;
     let status = judged.status();
+    forget(run);
     Ok(AuditedRecord { text, status })
 }
 
@@ -91,6 +93,7 @@ fn all_audited<R: AllocGlobal + Files + Input + Eprint + Threads + Sync>(
     let faults = all_faults(rt, rt.alloc(), &run, progress)?;
     let text = list_faults(rt.alloc(), &faults)?.into_bytes();
     let status = faults.status();
+    forget(run);
     Ok(AuditedRecord { text, status })
 }
 
@@ -182,6 +185,7 @@ fn by_record<R: AllocGlobal + Threads + Sync>(
     let witnessed = witness_record(rt, rt.alloc(), judging, seen, &held)?;
     let line = witnessed.line(rt.alloc())?;
     let status = witnessed.status();
+    forget(held);
     Ok(WitnessedTrace { line, status })
 }
 

@@ -26,6 +26,7 @@ use nvm_record::NoMemory;
 use nvm_standard::{Contradiction, Order, Profile};
 use nvm_trace::Trace;
 use std::alloc::Global;
+use std::mem::forget;
 use std::rt::Files;
 
 /// What was found out about a trace, held to a profile.
@@ -112,7 +113,9 @@ fn certified<R: AllocGlobal + Files + Input + Eprint>(
         ⊎ IsFaultOfTraceAt (string_bytes words.now.trace) failure.fault) }
 {
     let trace = read_as_trace(rt, words.trace.as_str(), progress)?;
-    Ok(found(rt.alloc(), words, &trace)?)
+    let told = found(rt.alloc(), words, &trace)?;
+    forget(trace);
+    Ok(told)
 }
 
 /// What is found out about the trace.

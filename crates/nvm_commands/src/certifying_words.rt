@@ -3,8 +3,8 @@ ghost use Rattle.std.specs.Prelude.{◌≡◌};
 ghost use Rattle.nvm_commands.specs.Asked.{profile_asked};
 
 use crate::front::{
-    Telling, WordFault, flag, json, number_of_32_bits, number_option, path_given, path_option,
-    telling_of, trace,
+    Telling, WordFault, flag, json, number_of_32_bits, number_option, path_given, path_named,
+    path_option, telling_of, trace,
 };
 use clap::{Arg, ArgMatches, Command, Error};
 use nvm_judge::profile_of;
@@ -49,22 +49,17 @@ impl CertifyWords {
 
 /// What the words say.
 pub fn read_certify(alloc: Global, words: &ArgMatches<'_>) -> Result<CertifyWords, WordFault> {
-    let (Some(effort), Some(trace)) = (
-        number_of_32_bits(alloc, words, "effort")?,
-        words.get_str("trace"),
-    ) else {
+    let Some(effort) = number_of_32_bits(alloc, words, "effort")? else {
         return Err(WordFault::Missing);
     };
-    let evidence = path_given(alloc, words, "evidence")?;
-    let trace = String::from_str(alloc, trace)?;
     Ok(CertifyWords {
         telling: telling_of(words),
         data: words.get_flag("data"),
         effort,
         reads: reads_of(words),
         deallocated: deallocated_of(words),
-        evidence,
-        trace,
+        evidence: path_given(alloc, words, "evidence")?,
+        trace: path_named(alloc, words, "trace")?,
     })
 }
 
@@ -90,19 +85,12 @@ fn deallocated_of(words: &ArgMatches<'_>) -> Option<Deallocated> {
 }
 
 /// An option that takes one of these words.
-fn word_option<'a>(
-    alloc: Global,
-    name: &'a str,
-    words: &'a [&'a str],
-    help: &'a str,
-) -> Result<Arg<'a>, Error> {
-    Ok(
-        Arg::new(alloc, name)
-            .long(name)
-            .value_name("WORD")
-            .value_parser(words)
-            .help(help),
-    )
+fn word_option<'a>(alloc: Global, name: &'a str, words: &'a [&'a str], help: &'a str) -> Arg<'a> {
+    Arg::new(alloc, name)
+        .long(name)
+        .value_name("WORD")
+        .value_parser(words)
+        .help(help)
 }
 
 /// `nvq certify`.
@@ -121,13 +109,13 @@ pub fn certify_command<'a>(alloc: Global) -> Result<Command<'a>, Error> {
         "reads",
         ["atomic", "atomic-all", "whole", "by-blocks"].as_slice(),
         "What Reads are held to, if not to what the trace says",
-    )?;
+    );
     let deallocated = word_option(
         alloc,
         "deallocated",
         ["zeroes", "ones", "either"].as_slice(),
         "What a deallocated block may read as, if not what the trace says",
-    )?;
+    );
     let data = flag(
         alloc,
         "data",

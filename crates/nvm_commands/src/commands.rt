@@ -7,7 +7,7 @@ use crate::conversion::{commands_of, list_of};
 use crate::explaining::run_explain;
 use crate::failure::{Failure, of_file};
 use crate::files::{bytes_of, check_output, payload_of, unwritten, write_bytes, write_host_file};
-use crate::front::{InputKind, Progress, WordFault, failed, tell, texts_of, words_given};
+use crate::front::{InputKind, Progress, WordFault, failed, tell, words_given};
 use crate::generating::run_generate;
 use crate::hint::refusal;
 use crate::list_failure::of_commands;
@@ -53,8 +53,7 @@ pub fn nvq_status<R: AllocGlobal + Env + Files + Input + Print + Eprint + Thread
 /// What the words after the program's name ask for.
 fn asked<R: AllocGlobal + Env>(rt: &R) -> Result<Asked, WordFault> {
     let words = words_given(rt)?;
-    let texts = texts_of(rt.alloc(), words.as_slice())?;
-    read_words(rt.alloc(), texts.as_slice())
+    read_words(rt.alloc(), words.as_slice())
 }
 
 /// Does what is asked, and gives the exit status. After a fault no file is written, but lists of a load before one that couldn't take its

@@ -14,6 +14,7 @@ use nvm_record::{BlockSize, Command, Payload};
 use nvm_trace::Trace;
 use nvm_trace_text::text_of_trace;
 use std::alloc::Global;
+use std::mem::forget;
 
 /// The commands of a list, or the list's fault.
 pub fn commands_of(alloc: Global, list: &[u8], size: BlockSize) -> Result<Vec<Command>, Fault>
@@ -83,7 +84,9 @@ fn list_of_record(alloc: Global, path: String, file: &Payload) -> Result<String,
     ensures fault { IfErr result (IsFaultOfRecord path file.now) }
 {
     let run = record_of(alloc, path, file)?;
-    Ok(list_record(alloc, &run)?)
+    let list = list_record(alloc, &run)?;
+    forget(run);
+    Ok(list)
 }
 
 /// The record at a path, or the file's fault.

@@ -2,7 +2,7 @@
 ghost use Rattle.std.specs.Prelude.{IfOk};
 ghost use Rattle.nvm_commands.specs.Words.{IsAsked};
 
-use crate::front::{WordFault, file_argument, flag, size_given};
+use crate::front::{WordFault, file_argument, flag, path_named, size_given};
 use crate::namespace_words::block;
 use crate::words::Asked;
 use clap::{ArgMatches, Command, Error};
@@ -12,15 +12,11 @@ use std::alloc::Global;
 pub fn assemble_asked(alloc: Global, words: &ArgMatches<'_>) -> Result<Asked, WordFault>
     ensures { IfOk result IsAsked }
 {
-    let (Some(size), Some(list), Some(out)) = (
-        size_given(alloc, words)?,
-        words.get_str("list"),
-        words.get_str("out"),
-    ) else {
+    let Some(size) = size_given(alloc, words)? else {
         return Err(WordFault::Missing);
     };
-    let list = String::from_str(alloc, list)?;
-    let out = String::from_str(alloc, out)?;
+    let list = path_named(alloc, words, "list")?;
+    let out = path_named(alloc, words, "out")?;
     Ok(Asked::Assemble { size, list, out })
 }
 
@@ -28,11 +24,8 @@ pub fn assemble_asked(alloc: Global, words: &ArgMatches<'_>) -> Result<Asked, Wo
 pub fn trace_asked(alloc: Global, words: &ArgMatches<'_>) -> Result<Asked, WordFault>
     ensures { IfOk result IsAsked }
 {
-    let (Some(text), Some(out)) = (words.get_str("text"), words.get_str("out")) else {
-        return Err(WordFault::Missing);
-    };
-    let text = String::from_str(alloc, text)?;
-    let out = String::from_str(alloc, out)?;
+    let text = path_named(alloc, words, "text")?;
+    let out = path_named(alloc, words, "out")?;
     Ok(Asked::Trace { text, out })
 }
 

@@ -15,6 +15,7 @@ use nvm_explain::{explain, witness_story};
 use nvm_record::Payload;
 use nvm_trace::{Judging, Trace};
 use std::alloc::Global;
+use std::mem::forget;
 use std::rt::Files;
 use std::thread::Threads;
 
@@ -86,7 +87,9 @@ fn explained_of<R: AllocGlobal + Eprint + Threads + Sync>(
     ensures { IfErr result (λ failure. IsFaultOfRecordIn path.now file.now failure.fault) }
 {
     let run = record_in(rt.alloc(), path, file)?;
-    Ok(explain(rt, rt.alloc(), &run, progress)?)
+    let text = explain(rt, rt.alloc(), &run, progress)?;
+    forget(run);
+    Ok(text)
 }
 
 /// The explanation of the trace that bytes say which were read from a path, and of the record or the evidence in those of another file; or
@@ -121,7 +124,9 @@ fn story_by_record<R: AllocGlobal + Threads + Sync>(
     ensures { IfErr result (λ failure. IsFaultOfRecordIn «record».now held.now failure.fault) }
 {
     let held = record_in(rt.alloc(), record, held)?;
-    Ok(witness_story(rt, rt.alloc(), judging, seen, &held)?)
+    let text = witness_story(rt, rt.alloc(), judging, seen, &held)?;
+    forget(held);
+    Ok(text)
 }
 
 /// The explanation of the trace and the order or the contradiction in the bytes of a file that was read from a path.

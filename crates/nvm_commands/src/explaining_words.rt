@@ -1,5 +1,5 @@
 //! The words of `nvq explain`.
-use crate::front::{WordFault, file_argument, judging_of, strict};
+use crate::front::{WordFault, file_argument, judging_of, path_given, path_named, strict};
 use clap::{Arg, ArgMatches, Command, Error};
 use nvm_trace::Judging;
 use std::alloc::Global;
@@ -21,14 +21,10 @@ pub enum ExplainWords {
 
 /// What the words say. One path is a record's; of two the first is a trace's.
 pub fn read_explain(alloc: Global, words: &ArgMatches<'_>) -> Result<ExplainWords, WordFault> {
-    let Some(file) = words.get_str("file") else {
-        return Err(WordFault::Missing);
-    };
-    let file = String::from_str(alloc, file)?;
-    let Some(evidence) = words.get_str("evidence") else {
+    let file = path_named(alloc, words, "file")?;
+    let Some(evidence) = path_given(alloc, words, "evidence")? else {
         return Ok(ExplainWords::Record { record: file });
     };
-    let evidence = String::from_str(alloc, evidence)?;
     Ok(ExplainWords::Trace {
         judging: judging_of(words),
         trace: file,

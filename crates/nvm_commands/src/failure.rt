@@ -42,26 +42,16 @@ impl Failure {
     pub fn hinted(fault: Fault, hint: Result<Option<String>, AllocError>) -> Failure
         ensures { result.fault ≡ fault }
     {
-        match hint {
-            Ok(Some(hint)) => Failure {
-                fault,
-                hint: Some(Hint::Made(hint)),
-            },
-            Ok(None) | Err(_) => plain(fault),
-        }
+        let hint = hint.ok().flatten().map(Hint::Made);
+        Failure { fault, hint }
     }
 
     /// A fault, and why it came, where that is known.
     pub fn because(fault: Fault, why: Option<&'static str>) -> Failure
         ensures { result.fault ≡ fault }
     {
-        match why {
-            Some(why) => Failure {
-                fault,
-                hint: Some(Hint::Known(why)),
-            },
-            None => plain(fault),
-        }
+        let hint = why.map(Hint::Known);
+        Failure { fault, hint }
     }
 }
 
@@ -131,7 +121,7 @@ pub fn of_file(alloc: Global, fault: Fault, path: &str, file: &Payload, size: Bl
 {
     let hint = match fault {
         Fault::BadName { .. } => no_host_file(alloc, path, file.as_slice()).map(Some),
-        Fault::UnknownVersion { .. } => versions(alloc),
+        Fault::UnknownVersion { .. } => String::from_str(alloc, VERSIONS).map(Some),
         Fault::BadValue { at, .. }
         | Fault::BeganAtZero { at, .. }
         | Fault::EndedBefore { at, .. } => { field_told(alloc, file.as_slice(), at) }
@@ -147,7 +137,7 @@ pub fn of_record(alloc: Global, fault: Fault, path: &str, file: &[u8]) -> Failur
 {
     let hint = match fault {
         Fault::BadName { .. } => no_record(alloc, path, file).map(Some),
-        Fault::UnknownVersion { .. } => versions(alloc),
+        Fault::UnknownVersion { .. } => String::from_str(alloc, VERSIONS).map(Some),
         Fault::BadValue { at, .. } => field_told(alloc, file, at),
         _ => Ok(None),
     };
@@ -202,11 +192,6 @@ fn or_line(
         None => line_of(alloc, text, line),
         told => Ok(told),
     }
-}
-
-/// Which versions of records are known.
-fn versions(alloc: Global) -> Result<Option<String>, AllocError> {
-    Ok(Some(String::from_str(alloc, VERSIONS)?))
 }
 
 fn too_many(alloc: Global, count: usize) -> Result<Option<String>, AllocError> {

@@ -234,28 +234,21 @@ pub fn check_output<R: Files + AllocGlobal>(
 ) -> Result<(), Failure>
     ensures { IfErr result (λ failure. IsWriteFault out.now failure.fault) }
 {
-    if out == STANDARD {
-        return Ok(());
+    if out != STANDARD && is_read(rt, out, read)? {
+        return Err(unwritten(rt.alloc(), out, Some(why)));
     }
-    match is_read(rt, out, read) {
-        Ok(false) => Ok(()),
-        Ok(true) => Err(unwritten(rt.alloc(), out, Some(why))),
-        Err(_) => Err(Failure::from(AllocError)),
-    }
+    Ok(())
 }
 
 /// Refuses a path to write that is the file which standard output goes to, before anything is written.
 pub fn check_no_lines<R: Files + AllocGlobal>(rt: &R, out: &str) -> Result<(), Failure>
     ensures { IfErr result (λ failure. IsWriteFault out.now failure.fault) }
 {
-    match is_output(rt, out) {
-        Ok(false) => Ok(()),
-        Ok(true) => {
-            let why = Some("standard output goes there, with the lines");
-            Err(unwritten(rt.alloc(), out, why))
-        }
-        Err(_) => Err(Failure::from(AllocError)),
+    if is_output(rt, out)? {
+        let why = Some("standard output goes there, with the lines");
+        return Err(unwritten(rt.alloc(), out, why));
     }
+    Ok(())
 }
 
 /// Refuses a path to write at which one of the files to read is, or which is standard output's.

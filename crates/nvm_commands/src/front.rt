@@ -17,7 +17,7 @@ mod unfinished;
 mod version;
 mod words;
 
-pub use arguments::{file_argument, file_arguments, flag, path_given, path_option};
+pub use arguments::{file_argument, file_arguments, flag, path_given, path_named, path_option};
 pub use failure::failed;
 pub use files::{
     FileFault, InputKind, STANDARD, is_input, is_one_output, is_output, is_read, read_input, write,
@@ -36,4 +36,4 @@ pub use output::Output;
 pub use progress::{JobProgress, Progress};
 pub use run_options::{limit, limit_given, nabo, nabsn, nsze, workers_given};
 pub use version::VERSION;
-pub use words::{UNWRITTEN, WordFault, owned, tell, texts_of, words_given};
+pub use words::{UNWRITTEN, WordFault, owned, tell, words_given};

@@ -85,11 +85,10 @@ fn check_outs<R: Files + AllocGlobal>(rt: &R, outs: &[String]) -> Result<(), Fai
 fn check_apart<R: Files + AllocGlobal>(rt: &R, out: &str, other: &str) -> Result<(), Failure>
     ensures { IfErr result (λ failure. IsWriteFault out.now failure.fault) }
 {
-    match is_one_output(rt, out, other) {
-        Ok(false) => Ok(()),
-        Ok(true) => Err(unwritten(rt.alloc(), out, Some(OF_ANOTHER))),
-        Err(_) => Err(Failure::from(AllocError)),
+    if is_one_output(rt, out, other)? {
+        return Err(unwritten(rt.alloc(), out, Some(OF_ANOTHER)));
     }
+    Ok(())
 }
 
 /// The lists of `count` hosts, from host 1 on.

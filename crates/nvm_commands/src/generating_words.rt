@@ -36,48 +36,31 @@ pub fn read_generate(alloc: Global, words: &ArgMatches<'_>) -> Result<GenerateWo
     if paths.is_empty() {
         return Err(WordFault::Missing);
     }
-    let namespace = read_namespace(alloc, words)?;
-    let mix = mix_of(alloc, words)?;
-    let outs = owned(alloc, paths)?;
     Ok(GenerateWords {
         seed,
         commands: commands as u16,
-        namespace,
-        mix,
-        outs,
+        namespace: read_namespace(alloc, words)?,
+        mix: mix_of(alloc, words)?,
+        outs: owned(alloc, paths)?,
     })
 }
 
 /// The weights of the kinds.
 fn mix_of(alloc: Global, words: &ArgMatches<'_>) -> Result<Mix, WordFault> {
-    let (
-        Some(write),
-        Some(read),
-        Some(compare),
-        Some(pair),
-        Some(zeroes),
-        Some(uncorrectable),
-        Some(deallocate),
-    ) = (
-        number_of_16_bits(alloc, words, "write")?,
-        number_of_16_bits(alloc, words, "read")?,
-        number_of_16_bits(alloc, words, "compare")?,
-        number_of_16_bits(alloc, words, "pair")?,
-        number_of_16_bits(alloc, words, "zeroes")?,
-        number_of_16_bits(alloc, words, "uncorrectable")?,
-        number_of_16_bits(alloc, words, "deallocate")?,
-    ) else {
-        return Err(WordFault::Missing);
-    };
     Ok(Mix {
-        write,
-        read,
-        compare,
-        pair,
-        zeroes,
-        uncorrectable,
-        deallocate,
+        write: weight_of(alloc, words, "write")?,
+        read: weight_of(alloc, words, "read")?,
+        compare: weight_of(alloc, words, "compare")?,
+        pair: weight_of(alloc, words, "pair")?,
+        zeroes: weight_of(alloc, words, "zeroes")?,
+        uncorrectable: weight_of(alloc, words, "uncorrectable")?,
+        deallocate: weight_of(alloc, words, "deallocate")?,
     })
+}
+
+/// The weight of a kind.
+fn weight_of(alloc: Global, words: &ArgMatches<'_>, kind: &'static str) -> Result<u16, WordFault> {
+    number_of_16_bits(alloc, words, kind)?.ok_or(WordFault::Missing)
 }
 
 /// `nvq generate`.

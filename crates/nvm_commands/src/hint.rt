@@ -109,21 +109,18 @@ pub fn no_trace(alloc: Global, path: &str, bytes: &[u8]) -> Result<String, Alloc
 /// What a file is, of which a command list was expected, where it is none: a host file, a record, a trace or evidence.
 pub fn no_list(alloc: Global, path: &str, bytes: &[u8]) -> Result<Option<String>, AllocError> {
     let name = name_of(path);
-    match Content::of(bytes) {
-        Content::HostFile => Ok(Some(format!(in alloc;
-            "{name} is a host file: nvq list {path} makes a list of it"
-        )?)),
-        Content::Record => Ok(Some(format!(in alloc;
-            "{name} is a record: nvq list {path} shows it"
-        )?)),
-        Content::Trace => Ok(Some(format!(in alloc;
-            "{name} is a trace: nvq list {path} shows it"
-        )?)),
-        Content::Order => Ok(Some(of_order(alloc, path)?)),
-        Content::Contradiction => Ok(Some(of_contradiction(alloc, path)?)),
-        Content::TraceText => Ok(Some(of_trace_text(alloc, path)?)),
-        Content::Empty | Content::List | Content::Text | Content::Unknown => Ok(None),
-    }
+    let told = match Content::of(bytes) {
+        Content::HostFile => {
+            format!(in alloc; "{name} is a host file: nvq list {path} makes a list of it")
+        }
+        Content::Record => format!(in alloc; "{name} is a record: nvq list {path} shows it"),
+        Content::Trace => format!(in alloc; "{name} is a trace: nvq list {path} shows it"),
+        Content::Order => of_order(alloc, path),
+        Content::Contradiction => of_contradiction(alloc, path),
+        Content::TraceText => of_trace_text(alloc, path),
+        Content::Empty | Content::List | Content::Text | Content::Unknown => return Ok(None),
+    };
+    told.map(Some)
 }
 
 /// What a file is, of which a trace's text was expected, where it is none: a file of ours or a command list.

@@ -1,11 +1,12 @@
 //! What the programs `nvq` and `nvmu` do. `nvq` runs lists of commands, which people write or a seed gives, makes them into host files, lists those,
 //! records and traces, makes the text of traces into files, and judges and explains records and traces. `nvmu` runs host files, and judges.
 //!
+//! A command frees nothing of the records and traces that it was about: the process ends with it.
+//!
 //! The module `front` has what both do with words, files and standard streams. How far long work is, a [`Progress`] says.
 #![tactic(auto)]
 
 mod auditing;
-mod auditing_words;
 mod certifying;
 mod certifying_words;
 mod checked;

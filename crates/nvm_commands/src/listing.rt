@@ -10,6 +10,7 @@ use crate::files::{read_as_record, write_bytes};
 use crate::front::{Progress, STANDARD};
 use nvm_engine::judge_watched;
 use nvm_listing::list_as_objects;
+use std::mem::forget;
 use std::rt::Files;
 use std::thread::Threads;
 
@@ -39,5 +40,6 @@ fn objects_listed<R: AllocGlobal + Files + Input + Eprint + Threads + Sync>(
     let judged = judge_watched(rt, rt.alloc(), &run, progress)?;
     let verdict = judged.object(rt.alloc())?;
     text.push_str(verdict.as_str())?;
+    forget(run);
     Ok(text)
 }

@@ -8,22 +8,20 @@ ghost use Rattle.nvm_commands.specs.Nvmu.Asked.{IsAnswerTo};
 mod answer;
 mod auditing;
 mod files;
-mod refute_words;
 mod refuting;
 mod running;
 mod words;
 
 use crate::failure::Failure;
 use crate::fault::Fault;
-use crate::front::{
-    FileFault, Output, Progress, UNWRITTEN, WordFault, failed, tell, texts_of, words_given,
-};
+use crate::front::{FileFault, Output, Progress, UNWRITTEN, WordFault, failed, tell, words_given};
 use crate::nvmu::answer::Answer;
 use crate::nvmu::auditing::{audited, witnessed};
 use crate::nvmu::refuting::refuted;
 use crate::nvmu::running::recorded;
 use crate::nvmu::words::{Asked, read_words};
 use std::alloc::Global;
+use std::mem::forget;
 use std::rt::{Env, Files};
 use std::sync::Wait;
 use std::thread::Threads;
@@ -52,8 +50,7 @@ pub fn nvmu_status<R: AllocGlobal + Env + Files + Input + Print + Eprint + Threa
 /// What the words after the program's name ask for.
 fn asked<R: AllocGlobal + Env>(rt: &R) -> Result<Asked, WordFault> {
     let words = words_given(rt)?;
-    let texts = texts_of(rt.alloc(), words.as_slice())?;
-    read_words(rt.alloc(), texts.as_slice())
+    read_words(rt.alloc(), words.as_slice())
 }
 
 /// Does what is asked, writes the answer to standard output, and gives the exit status.
@@ -68,7 +65,9 @@ fn done<R: AllocGlobal + Files + Input + Print + Eprint + Threads + Wait + Sync>
     match answer {
         Ok(answer) => {
             let written = print(rt.alloc(), &answer, output);
-            ended(rt, &answer, written)
+            let status = ended(rt, &answer, written);
+            forget(answer);
+            status
         }
         Err(Failure { fault, .. }) => failed(rt, NVMU, fault),
     }

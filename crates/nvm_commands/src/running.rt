@@ -23,6 +23,7 @@ use nvm_engine::{Fault as RunFault, Settings, Shown, Workers, execute_watched};
 use nvm_record::Payload;
 use std::alloc::AllocError;
 use std::io::Write;
+use std::mem::forget;
 use std::rt::Files;
 use std::sync::Wait;
 use std::thread::{Threads, available_parallelism};
@@ -61,6 +62,7 @@ pub fn run_lists<R: AllocGlobal + Files + Input + Print + Eprint + Threads + Wai
     match print(output, &told, &mut texts, &checked) {
         Ok(()) => {
             tell_if_idle(rt, &told.shown, &checked);
+            forget(told);
             Ok(status_of(&checked))
         }
         Err(fault) => Err(unmade(rt.alloc(), STANDARD, fault)),

@@ -39,20 +39,14 @@ pub fn read_run(alloc: Global, words: &ArgMatches<'_>) -> Result<RunWords, WordF
     if paths.is_empty() {
         return Err(WordFault::Missing);
     }
-    let workers = match workers_given(alloc, words)? {
-        Some(count) => Workers::new(count),
-        None => None,
-    };
-    let record = path_given(alloc, words, "record")?;
-    let lists = owned(alloc, paths)?;
     Ok(RunWords {
         namespace,
-        workers,
+        workers: workers_given(alloc, words)?,
         limit,
-        record,
+        record: path_given(alloc, words, "record")?,
         check: words.get_flag("check"),
         telling: telling_of(words),
-        lists,
+        lists: owned(alloc, paths)?,
     })
 }
 

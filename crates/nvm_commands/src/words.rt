@@ -1,14 +1,14 @@
 ghost use Rattle.std.specs.Prelude.{IfOk};
 ghost use Rattle.nvm_commands.specs.Words.{IsAsked};
 
-use crate::auditing_words::auditing_command;
 use crate::certifying_words::{CertifyWords, certify_command, read_certify};
 use crate::conversion_words::{
     assemble_asked, assemble_command, list_asked, list_command, trace_asked, trace_command,
 };
 use crate::explaining_words::{ExplainWords, explain_command, read_explain};
 use crate::front::{
-    AuditWords, VERSION, WitnessWords, WordFault, read_audit, read_witness, witness_command,
+    AuditWords, VERSION, WitnessWords, WordFault, audit_command, flag, read_audit, read_witness,
+    witness_command,
 };
 use crate::generating_words::{GenerateWords, generate_command, read_generate};
 use crate::running_words::{RunWords, read_run, run_command};
@@ -54,7 +54,7 @@ pub enum Asked {
 }
 
 /// Reads the words after the program's name. A block has 512 bytes where no size is given, and a run and a load have one list or more.
-pub fn read_words<'a>(alloc: Global, words: &'a [&'a str]) -> Result<Asked, WordFault>
+pub fn read_words(alloc: Global, words: &[String]) -> Result<Asked, WordFault>
     ensures { IfOk result IsAsked }
 {
     let mut command = program(alloc)?;
@@ -92,6 +92,17 @@ fn audit_asked(alloc: Global, words: &ArgMatches<'_>) -> Result<Asked, WordFault
     }
 }
 
+/// `nvq audit`: the words that both programs have, and `--all`.
+fn auditing_command<'a>(alloc: Global) -> Result<Command<'a>, Error> {
+    let all = flag(
+        alloc,
+        "all",
+        "Prints the first fault of each unit that has one, and how many these are",
+    )
+    .conflicts_with("json")?;
+    Ok(audit_command(alloc)?.arg(all)?)
+}
+
 /// The command line of the program.
 fn program<'a>(alloc: Global) -> Result<Command<'a>, Error> {
     let program = Command::new(alloc, "nvq")
@@ -107,32 +118,23 @@ fn program<'a>(alloc: Global) -> Result<Command<'a>, Error> {
 
 /// With the commands that do, make and list.
 fn with_makers<'a>(alloc: Global, program: Command<'a>) -> Result<Command<'a>, Error> {
-    let run = run_command(alloc)?;
-    let generate = generate_command(alloc)?;
-    let assemble = assemble_command(alloc)?;
-    let trace = trace_command(alloc)?;
-    let list = list_command(alloc)?;
     Ok(
         program
-            .subcommand(run)?
-            .subcommand(generate)?
-            .subcommand(assemble)?
-            .subcommand(trace)?
-            .subcommand(list)?,
+            .subcommand(run_command(alloc)?)?
+            .subcommand(generate_command(alloc)?)?
+            .subcommand(assemble_command(alloc)?)?
+            .subcommand(trace_command(alloc)?)?
+            .subcommand(list_command(alloc)?)?,
     )
 }
 
 /// With the commands that judge and explain.
 fn with_judges<'a>(alloc: Global, program: Command<'a>) -> Result<Command<'a>, Error> {
-    let audit = auditing_command(alloc)?;
-    let witness = witness_command(alloc)?;
-    let certify = certify_command(alloc)?;
-    let explain = explain_command(alloc)?;
     Ok(
         program
-            .subcommand(audit)?
-            .subcommand(witness)?
-            .subcommand(certify)?
-            .subcommand(explain)?,
+            .subcommand(auditing_command(alloc)?)?
+            .subcommand(witness_command(alloc)?)?
+            .subcommand(certify_command(alloc)?)?
+            .subcommand(explain_command(alloc)?)?,
     )
 }

@@ -8,7 +8,7 @@ use Rattle.nvm_standard.specs.declared.fact.Fact.{Fact}
 use Rattle.nvm_standard.specs.declared.fact.Fact.TheVariants.{Time, Deallocate, Own, Source, Over, Under, First, AtFirst, TiedBefore, TiedAfter}
 use Rattle.nvm_file.specs.Fields.{◌>>=◌}
 use Rattle.nvm_evidence.specs.declared.evidence_fault.EvidenceFault.{EvidenceFault}
-use Rattle.nvm_evidence.specs.declared.held_contradiction.HeldContradiction.{HeldContradiction}
+use Rattle.nvm_evidence.specs.declared.evidence.HeldContradiction.{HeldContradiction}
 use Rattle.nvm_evidence.specs.Fields.{counted_at, kind_at, made, number_at, whole}
 use Rattle.nvm_evidence.specs.FrontReading.{front_at, of_contradiction}
 

@@ -26,10 +26,6 @@ of_contradiction = 2
 abbrev pub is_evidence : List ℕ → Bool
 is_evidence bytes = bytes_eq (take 4 bytes) evidence_name
 
--- what stands behind the name
-unfoldable pub name_at : List ℕ → Result (List ℕ) EvidenceFault
-name_at bytes = if is_evidence bytes then Ok (drop 4 bytes) else Err BadName
-
 -- what Reads are held to, by its code
 abbrev pub held_of : ℕ → Held
 held_of code =
@@ -45,9 +41,8 @@ deallocated_of code =
 
 -- the front of a file of a kind of evidence from `low` to `high`: its kind, and what stands behind it
 unfoldable pub evidence_kind_at : ℕ → ℕ → List ℕ → Result (ℕ × List ℕ) EvidenceFault
-evidence_kind_at low high bytes = do
-  behind ← name_at bytes
-  kind_at (length bytes) low high behind
+evidence_kind_at low high bytes =
+    if is_evidence bytes then kind_at (length bytes) low high (drop 4 bytes) else Err BadName
 
 -- what the device was held to
 unfoldable pub profile_at : ℕ → List ℕ → Result (Profile × List ℕ) EvidenceFault

@@ -4,7 +4,7 @@ use Rattle.nvm_standard.specs.declared.profile.Profile.{Profile}
 use Rattle.nvm_standard.specs.OrderView.{ContentView, ValueView, FirstView, PlacedView, OrderView, zeroes, ones, bytes as these, mark, as_is, puts, seen_order}
 use Rattle.nvm_file.specs.Fields.{◌>>=◌}
 use Rattle.nvm_evidence.specs.declared.evidence_fault.EvidenceFault.{EvidenceFault}
-use Rattle.nvm_evidence.specs.declared.held_order.HeldOrder.{HeldOrder}
+use Rattle.nvm_evidence.specs.declared.evidence.HeldOrder.{HeldOrder}
 use Rattle.nvm_evidence.specs.Fields.{bytes_at, counted_at, kind_at, made, number_at, whole}
 use Rattle.nvm_evidence.specs.FrontReading.{front_at, of_order}
 

@@ -11,7 +11,7 @@ use Rattle.nvm_trace.specs.TraceView.{TraceView}
 use Rattle.nvm_evidence.specs.ContradictionReading.{IsContradictionFile, contradiction_at}
 use Rattle.nvm_evidence.specs.Named.{IsCountNamed}
 use Rattle.nvm_evidence.specs.declared.evidence_fault.EvidenceFault.{EvidenceFault}
-use Rattle.nvm_evidence.specs.declared.held_contradiction.HeldContradiction.{HeldContradiction}
+use Rattle.nvm_evidence.specs.declared.evidence.HeldContradiction.{HeldContradiction}
 use Rattle.nvm_evidence.specs.declared.refute_fault.RefuteBytesFault.{RefuteBytesFault}
 use Rattle.nvm_evidence.specs.declared.refute_fault.RefuteBytesFault.TheVariants as fault
 use Rattle.nvm_evidence.specs.declared.refuted.Refuted.{Refuted as RefutedType}

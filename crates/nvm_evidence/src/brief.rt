@@ -2,7 +2,7 @@
 use crate::contradicted::{first_line, push_command, push_facts_told};
 use crate::named::commands_named;
 use crate::sentence::push_sentence;
-use crate::sources::push_source;
+use crate::sources::source_of;
 use crate::verdict::wrong_text;
 use nvm_record::NoMemory;
 use nvm_standard::{Contradiction, Found, Point, Points, PointsFault, Profile, points_of};
@@ -22,24 +22,14 @@ pub fn contradiction_brief(
     profile: Profile,
     contradiction: &Contradiction,
 ) -> Result<String, NoMemory> {
-    match points_of(alloc, trace, profile) {
-        Ok(points) => brief_among(alloc, trace, &points, profile, contradiction),
-        Err(PointsFault::Wrong { command }) => wrong_text(alloc, trace, command),
-        Err(PointsFault::NoMemory) => Err(AllocError),
-    }
-}
-
-/// The same of a contradiction of these points.
-fn brief_among(
-    alloc: Global,
-    trace: &Trace,
-    points: &Points<'_>,
-    profile: Profile,
-    contradiction: &Contradiction,
-) -> Result<String, NoMemory> {
-    let commands = commands_named(alloc, points, contradiction)?;
+    let points = match points_of(alloc, trace, profile) {
+        Ok(points) => points,
+        Err(PointsFault::Wrong { command }) => return wrong_text(alloc, trace, command),
+        Err(PointsFault::NoMemory) => return Err(AllocError),
+    };
+    let commands = commands_named(alloc, &points, contradiction)?;
     let mut text = first_line(alloc, profile, commands.len())?;
-    push_brief(alloc, &mut text, trace, points, &commands, contradiction)?;
+    push_brief(alloc, &mut text, trace, &points, &commands, contradiction)?;
     Ok(text)
 }
 
@@ -145,18 +135,6 @@ fn push_point(
         text.push_str("  ..\n")?;
     }
     Ok(())
-}
-
-/// Whose data the point found in the block.
-fn source_of(
-    alloc: Global,
-    points: &Points<'_>,
-    point: &Point<'_>,
-    block: u32,
-) -> Result<String, NoMemory> {
-    let mut source = String::new(alloc);
-    push_source(alloc, &mut source, points, point, block)?;
-    Ok(source)
 }
 
 /// Appends whose data was found in these blocks.

@@ -3,7 +3,6 @@ use crate::command_object::push_command_object;
 use crate::fact_line::{push_conclusion, push_fact};
 use crate::fact_object::{push_conclusion_object, push_fact_object};
 use crate::named::commands_named;
-use crate::values::push_comma;
 use crate::verdict::{wrong_object, wrong_text};
 use crate::words::{deallocated_word, held_word};
 use nvm_record::NoMemory;
@@ -22,11 +21,18 @@ pub fn contradiction_text(
     profile: Profile,
     contradiction: &Contradiction,
 ) -> Result<String, NoMemory> {
-    match points_of(alloc, trace, profile) {
-        Ok(points) => text_among(alloc, trace, &points, profile, contradiction),
-        Err(PointsFault::Wrong { command }) => wrong_text(alloc, trace, command),
-        Err(PointsFault::NoMemory) => Err(AllocError),
+    let points = match points_of(alloc, trace, profile) {
+        Ok(points) => points,
+        Err(PointsFault::Wrong { command }) => return wrong_text(alloc, trace, command),
+        Err(PointsFault::NoMemory) => return Err(AllocError),
+    };
+    let commands = commands_named(alloc, &points, contradiction)?;
+    let mut text = first_line(alloc, profile, commands.len())?;
+    for number in &commands {
+        push_command(&mut text, trace, *number)?;
     }
+    push_facts_told(&mut text, &points, contradiction)?;
+    Ok(text)
 }
 
 /// The same as an object of JSON, on one line with its line feed. In it a command is named by its number. No string has to be escaped.
@@ -41,23 +47,6 @@ pub fn contradiction_object(
         Err(PointsFault::Wrong { command }) => wrong_object(alloc, command),
         Err(PointsFault::NoMemory) => Err(AllocError),
     }
-}
-
-/// The lines of a contradiction of these points.
-fn text_among(
-    alloc: Global,
-    trace: &Trace,
-    points: &Points<'_>,
-    profile: Profile,
-    contradiction: &Contradiction,
-) -> Result<String, NoMemory> {
-    let commands = commands_named(alloc, points, contradiction)?;
-    let mut text = first_line(alloc, profile, commands.len())?;
-    for number in &commands {
-        push_command(&mut text, trace, *number)?;
-    }
-    push_facts_told(&mut text, points, contradiction)?;
-    Ok(text)
 }
 
 /// The first line of a contradiction that names so many commands.
@@ -126,12 +115,12 @@ fn object_among(
 
 /// Appends an object for each of the commands.
 fn push_commands(text: &mut String, trace: &Trace, commands: &[u32]) -> Result<(), NoMemory> {
-    let mut is_first = true;
+    let mut comma = "";
     for number in commands {
         if let Some(job) = trace.jobs.get(*number as usize) {
-            push_comma(text, is_first)?;
+            text.push_str(comma)?;
             push_command_object(text, *number as usize, job)?;
-            is_first = false;
+            comma = ",";
         }
     }
     Ok(())
@@ -143,11 +132,11 @@ fn push_facts(
     points: &Points<'_>,
     contradiction: &Contradiction,
 ) -> Result<(), NoMemory> {
-    let mut is_first = true;
+    let mut comma = "";
     for fact in &contradiction.facts {
-        push_comma(text, is_first)?;
+        text.push_str(comma)?;
         push_fact_object(text, points, *fact)?;
-        is_first = false;
+        comma = ",";
     }
     Ok(())
 }

@@ -1,6 +1,6 @@
 //! What a contradiction says of a trace.
 use crate::brief::push_brief;
-use crate::held_contradiction::HeldContradiction;
+use crate::evidence::HeldContradiction;
 use crate::named::commands_named;
 use crate::refuted::Refuted;
 use crate::refuting::refute_contradiction;

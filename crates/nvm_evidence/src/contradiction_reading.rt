@@ -2,13 +2,13 @@ ghost use Rattle.std.specs.Prelude.{◌≡◌};
 ghost use Rattle.nvm_file.specs.Fields.{items_at};
 ghost use Rattle.nvm_evidence.specs.ContradictionReading as spec;
 ghost use Rattle.nvm_evidence.specs.ContradictionReading.{conclusion_at, contradiction_at, fact_at, seen_held_contradiction};
-ghost use Rattle.nvm_evidence.specs.Fields.{Gives, counted_at};
+ghost use Rattle.nvm_evidence.specs.Fields.{Gives};
 
+use crate::evidence::HeldContradiction;
 use crate::evidence_fault::EvidenceFault;
 use crate::fact_reading::{fact_of, two_of};
 use crate::fields::{kind_of, offset_of, u32_of, u64_of};
 use crate::front::{CONTRADICTION, front_of};
-use crate::held_contradiction::HeldContradiction;
 use nvm_standard::{Conclusion, Contradiction, Fact};
 use std::alloc::Global;
 
@@ -19,14 +19,15 @@ const LEAST_FACT: usize = 9;
 ///
 /// Memory is taken for what is read, never for more than the bytes that follow could hold, whatever their numbers say. The first fault from
 /// the front is answered, or `NoMemory` where a growth was refused before it. Whether the contradiction is taken of anything it doesn't say.
-#[tactic(auto, unfolding(crate::specs::ContradictionReading::contradiction_at))]
+#[tactic(auto, unfolding(crate::specs::ContradictionReading::contradiction_at, crate::specs::Fields::counted_at))]
 pub fn read_contradiction(alloc: Global, bytes: &[u8]) -> Result<HeldContradiction, EvidenceFault>
     ensures { Gives seen_held_contradiction result (contradiction_at bytes.now) }
 {
     let total = bytes.len();
     let (profile, rest) = front_of(CONTRADICTION, bytes)?;
     let (conclusion, rest) = conclusion_of(total, rest)?;
-    let (facts, rest) = facts_of(alloc, total, rest)?;
+    let (count, rest) = u64_of(total, rest)?;
+    let (facts, rest) = facts_of(alloc, total, count, rest)?;
     if rest.len() > 0 {
         return Err(EvidenceFault::Trailing {
             at: offset_of(total, rest),
@@ -65,17 +66,8 @@ fn conclusion_by(total: usize, kind: u8, rest: &[u8]) -> Result<(Conclusion, &[u
     }
 }
 
-/// The facts, each by those before it.
-#[tactic(auto, unfolding(crate::specs::Fields::counted_at))]
-fn facts_of(alloc: Global, total: usize, from: &[u8]) -> Result<(Vec<Fact>, &[u8]), EvidenceFault>
-    ensures { Gives (λ x. (x.0.items, x.1.now)) result (counted_at total (fact_at total) from.now) }
-{
-    let (count, rest) = u64_of(total, from)?;
-    some_facts_of(alloc, total, count, rest)
-}
-
-/// So many of them.
-fn some_facts_of(
+/// So many facts, each by those before it.
+fn facts_of(
     alloc: Global,
     total: usize,
     count: u64,

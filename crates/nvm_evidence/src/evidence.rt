@@ -1,5 +1,18 @@
-use crate::held_contradiction::HeldContradiction;
-use crate::held_order::HeldOrder;
+use nvm_standard::{Contradiction, Order, Profile};
+
+/// An order, and what the device was held to where it was found. Bytes are lent.
+#[derive(Debug, Drop)]
+pub struct HeldOrder<'f> {
+    pub profile: Profile,
+    pub order: Order<'f>,
+}
+
+/// A contradiction, and what the device was held to where it was found.
+#[derive(Debug, Drop)]
+pub struct HeldContradiction {
+    pub profile: Profile,
+    pub contradiction: Contradiction,
+}
 
 /// What a file of evidence holds.
 #[derive(Debug, Drop)]

@@ -1,6 +1,6 @@
 //! What a fact says, and by which rule, and what the facts come to.
-use crate::point_name::{PointName, name_of};
-use crate::precedence::precedence_of;
+use crate::point_name::name_of;
+use crate::precedence::{PointOrder, order_of};
 use nvm_record::NoMemory;
 use nvm_standard::{Conclusion, Fact, Points};
 use nvm_trace::Start;
@@ -27,11 +27,21 @@ pub(crate) fn push_fact(
             )
         }
         _ => {
-            if let Some(precedence) = precedence_of(points, fact) {
-                write!(text, "{precedence}: ")?;
+            if let Some(order) = order_of(fact) {
+                push_order(text, points, order)?;
             }
             push_reason(text, points, fact)
         }
+    }
+}
+
+/// Appends which point comes before which, and in which block, if one is named.
+fn push_order(text: &mut String, points: &Points<'_>, order: PointOrder) -> Result<(), NoMemory> {
+    let before = name_of(points, order.before);
+    let after = name_of(points, order.after);
+    match order.lba {
+        Some(lba) => write!(text, "{before} comes before {after} in LBA {lba}: "),
+        None => write!(text, "{before} comes before {after}: "),
     }
 }
 
@@ -140,12 +150,12 @@ fn over_of(points: &Points<'_>, number: u32) -> Option<u64> {
     points.points.get(number as usize)?.over
 }
 
-/// The point that would come before itself by these facts: the one that the last of them that says an order puts before another.
-pub(crate) fn itself_of(points: &Points<'_>, facts: &[Fact]) -> Option<PointName> {
+/// The number of the point that would come before itself by these facts: the one that the last of them that says an order puts before another.
+pub(crate) fn itself_of(facts: &[Fact]) -> Option<u32> {
     let mut itself = None;
     for fact in facts {
-        if let Some(precedence) = precedence_of(points, *fact) {
-            itself = Some(precedence.before);
+        if let Some(order) = order_of(*fact) {
+            itself = Some(order.before);
         }
     }
     itself
@@ -159,8 +169,11 @@ pub(crate) fn push_conclusion(
     conclusion: Conclusion,
 ) -> Result<(), NoMemory> {
     match conclusion {
-        Conclusion::Loop => match itself_of(points, facts) {
-            Some(name) => write!(text, "so {name} comes before itself"),
+        Conclusion::Loop => match itself_of(facts) {
+            Some(number) => {
+                let name = name_of(points, number);
+                write!(text, "so {name} comes before itself")
+            }
             None => text.push_str("so a job comes before itself"),
         },
         Conclusion::Nobody { reader, block } => {

@@ -1,26 +1,9 @@
 //! A fact as an object of JSON, and what the facts come to.
 use crate::fact_line::{itself_of, push_conclusion, push_fact};
-use crate::point_name::name_of;
-use crate::precedence::{Precedence, precedence_of};
+use crate::point_name::command_of;
+use crate::precedence::{PointOrder, order_of};
 use nvm_record::NoMemory;
 use nvm_standard::{Conclusion, Fact, Points};
-use std::fmt;
-use std::fmt::{Display, Formatter};
-
-/// Which command comes before which, and in which block, if one is named.
-#[derive(Clone, Copy)]
-struct OrderMembers(Precedence);
-
-impl Display for OrderMembers {
-    fn fmt<W: fmt::Write>(&self, f: &mut Formatter<W>) -> fmt::Result {
-        let Precedence { before, after, lba } = self.0;
-        write!(f, ",\"before\":{},\"after\":{}", before.job, after.job)?;
-        match lba {
-            Some(lba) => write!(f, ",\"lba\":{lba}"),
-            None => Ok(()),
-        }
-    }
-}
 
 /// What a rule is called.
 fn rule_of(fact: Fact) -> &'static str {
@@ -43,6 +26,16 @@ fn push_member(text: &mut String, name: &str, number: u32) -> Result<(), NoMemor
     write!(text, ",\"{name}\":{number}")
 }
 
+/// Appends which command comes before which, and in which block, if one is named.
+fn push_order(text: &mut String, points: &Points<'_>, order: PointOrder) -> Result<(), NoMemory> {
+    push_member(text, "before", command_of(points, order.before))?;
+    push_member(text, "after", command_of(points, order.after))?;
+    match order.lba {
+        Some(lba) => push_member(text, "lba", lba),
+        None => Ok(()),
+    }
+}
+
 /// Appends which commands the fact names as what, beside its order, and the other block that it names.
 fn push_members(text: &mut String, points: &Points<'_>, fact: Fact) -> Result<(), NoMemory> {
     match fact {
@@ -52,12 +45,12 @@ fn push_members(text: &mut String, points: &Points<'_>, fact: Fact) -> Result<()
             writer,
             ..
         } => {
-            push_member(text, "deallocate", name_of(points, deallocate).job)?;
-            push_member(text, "writer", name_of(points, writer).job)
+            push_member(text, "deallocate", command_of(points, deallocate))?;
+            push_member(text, "writer", command_of(points, writer))
         }
         Fact::Source { writer, reader, .. } | Fact::First { reader, writer, .. } => {
-            push_member(text, "writer", name_of(points, writer).job)?;
-            push_member(text, "reader", name_of(points, reader).job)
+            push_member(text, "writer", command_of(points, writer))?;
+            push_member(text, "reader", command_of(points, reader))
         }
         Fact::Over {
             reader,
@@ -71,13 +64,13 @@ fn push_members(text: &mut String, points: &Points<'_>, fact: Fact) -> Result<()
             reader,
             ..
         } => {
-            push_member(text, "writer", name_of(points, writer).job)?;
-            push_member(text, "source", name_of(points, source).job)?;
-            push_member(text, "reader", name_of(points, reader).job)
+            push_member(text, "writer", command_of(points, writer))?;
+            push_member(text, "source", command_of(points, source))?;
+            push_member(text, "reader", command_of(points, reader))
         }
         Fact::AtFirst { reader, block } => {
             push_member(text, "lba", block)?;
-            push_member(text, "reader", name_of(points, reader).job)
+            push_member(text, "reader", command_of(points, reader))
         }
         Fact::TiedBefore {
             reader,
@@ -91,8 +84,8 @@ fn push_members(text: &mut String, points: &Points<'_>, fact: Fact) -> Result<()
             by,
             ..
         } => {
-            push_member(text, "entry", name_of(points, entry).job)?;
-            push_member(text, "reader", name_of(points, reader).job)?;
+            push_member(text, "entry", command_of(points, entry))?;
+            push_member(text, "reader", command_of(points, reader))?;
             push_member(text, "by", by)
         }
     }
@@ -106,8 +99,8 @@ pub(crate) fn push_fact_object(
 ) -> Result<(), NoMemory> {
     let rule = rule_of(fact);
     write!(text, "{{\"fact\":\"{rule}\"")?;
-    if let Some(precedence) = precedence_of(points, fact) {
-        write!(text, "{}", OrderMembers(precedence))?;
+    if let Some(order) = order_of(fact) {
+        push_order(text, points, order)?;
     }
     push_members(text, points, fact)?;
     text.push_str(",\"text\":\"")?;
@@ -125,19 +118,19 @@ fn push_concluded(
     match conclusion {
         Conclusion::Loop => {
             text.push_str("{\"conclusion\":\"loop\"")?;
-            match itself_of(points, facts) {
-                Some(name) => push_member(text, "job", name.job),
+            match itself_of(facts) {
+                Some(number) => push_member(text, "job", command_of(points, number)),
                 None => Ok(()),
             }
         }
         Conclusion::Nobody { reader, block } => {
             text.push_str("{\"conclusion\":\"nobody\"")?;
             push_member(text, "lba", block)?;
-            push_member(text, "reader", name_of(points, reader).job)
+            push_member(text, "reader", command_of(points, reader))
         }
         Conclusion::Nowhere { reader } => {
             text.push_str("{\"conclusion\":\"nowhere\"")?;
-            push_member(text, "reader", name_of(points, reader).job)
+            push_member(text, "reader", command_of(points, reader))
         }
     }
 }

@@ -2,7 +2,7 @@
 ghost use Rattle.std.specs.Prelude.{◌≡◌};
 ghost use Rattle.nvm_evidence.specs.Fields.{Gives};
 ghost use Rattle.nvm_evidence.specs.FrontReading as spec;
-ghost use Rattle.nvm_evidence.specs.FrontReading.{evidence_kind_at, front_at, name_at, profile_at};
+ghost use Rattle.nvm_evidence.specs.FrontReading.{evidence_kind_at, front_at, profile_at};
 
 use crate::evidence_fault::EvidenceFault;
 use crate::fields::{kind_of, offset_of};
@@ -10,7 +10,7 @@ use nvm_standard::{Deallocated, Held, Profile};
 use std::alloc::{AllocError, Global};
 
 /// Each file of evidence begins with these bytes.
-pub(crate) const NAME: &[u8; 4] = b"NVE1";
+const NAME: &[u8; 4] = b"NVE1";
 
 /// The kind of evidence that is an order.
 pub(crate) const ORDER: u8 = 1;
@@ -25,18 +25,7 @@ pub fn is_evidence(bytes: &[u8]) -> bool
     bytes.starts_with(NAME)
 }
 
-/// The file's name.
-#[tactic(auto, unfolding(crate::specs::FrontReading::name_at))]
-fn name_of(bytes: &[u8]) -> Result<&[u8], EvidenceFault>
-    ensures { Gives (λ x. x.now) result (name_at bytes.now) }
-{
-    if !is_evidence(bytes) {
-        return Err(EvidenceFault::BadName);
-    }
-    Ok(&bytes[NAME.len()..])
-}
-
-/// What kind of evidence the file holds, from `low` to `high`, and what comes after that.
+/// What kind of evidence the file holds behind its name, from `low` to `high`, and what comes after that.
 #[tactic(auto, unfolding(crate::specs::FrontReading::evidence_kind_at))]
 pub(crate) fn evidence_kind_of(
     low: u8,
@@ -45,8 +34,10 @@ pub(crate) fn evidence_kind_of(
 ) -> Result<(u8, &[u8]), EvidenceFault>
     ensures { Gives (λ x. (x.0, x.1.now)) result (evidence_kind_at low high bytes.now) }
 {
-    let rest = name_of(bytes)?;
-    kind_of(bytes.len(), low, high, rest)
+    if !is_evidence(bytes) {
+        return Err(EvidenceFault::BadName);
+    }
+    kind_of(bytes.len(), low, high, &bytes[NAME.len()..])
 }
 
 /// What the device was held to in a file of this kind of evidence, and what comes after that.

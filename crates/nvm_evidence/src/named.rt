@@ -13,15 +13,15 @@ fn put_fact(numbers: &mut Vec<u32>, fact: Fact) -> Result<(), NoMemory>
     ensures { OnOk result (numbers.new.items ≡ numbers.old.items ++ spec.fact_points fact) }
 {
     match fact {
-        Fact::Time { earlier, later } => put_all(numbers, &[earlier.point, later.point]),
+        Fact::Time { earlier, later } => numbers.extend_from_slice(&[earlier.point, later.point]),
         Fact::Deallocate {
             deallocate,
             writer,
             ..
-        } => put_all(numbers, &[deallocate, writer]),
-        Fact::Own { later, .. } => put_all(numbers, &[later.saturating_sub(1), later]),
+        } => numbers.extend_from_slice(&[deallocate, writer]),
+        Fact::Own { later, .. } => numbers.extend_from_slice(&[later.saturating_sub(1), later]),
         Fact::Source { writer, reader, .. } | Fact::First { reader, writer, .. } => {
-            put_all(numbers, &[writer, reader])
+            numbers.extend_from_slice(&[writer, reader])
         }
         Fact::Over {
             reader,
@@ -34,10 +34,10 @@ fn put_fact(numbers: &mut Vec<u32>, fact: Fact) -> Result<(), NoMemory>
             source,
             reader,
             ..
-        } => put_all(numbers, &[reader, writer, source]),
-        Fact::AtFirst { reader, .. } => put_all(numbers, &[reader]),
+        } => numbers.extend_from_slice(&[reader, writer, source]),
+        Fact::AtFirst { reader, .. } => numbers.extend_from_slice(&[reader]),
         Fact::TiedBefore { reader, entry, .. } | Fact::TiedAfter { entry, reader, .. } => {
-            put_all(numbers, &[reader, entry])
+            numbers.extend_from_slice(&[reader, entry])
         }
     }
 }
@@ -49,17 +49,9 @@ fn put_conclusion(numbers: &mut Vec<u32>, conclusion: Conclusion) -> Result<(), 
     match conclusion {
         Conclusion::Loop => Ok(()),
         Conclusion::Nobody { reader, .. } | Conclusion::Nowhere { reader } => {
-            put_all(numbers, &[reader])
+            numbers.extend_from_slice(&[reader])
         }
     }
-}
-
-/// Appends these numbers.
-fn put_all(numbers: &mut Vec<u32>, more: &[u32]) -> Result<(), NoMemory>
-    ensures { OnOk result (numbers.new.items ≡ numbers.old.items ++ more.now) }
-{
-    numbers.extend_from_slice(more)?;
-    Ok(())
 }
 
 /// The numbers of the points that the contradiction names.

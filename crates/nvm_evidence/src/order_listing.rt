@@ -1,5 +1,5 @@
 //! What was done in an order, one point a line.
-use crate::held_order::HeldOrder;
+use crate::evidence::HeldOrder;
 use crate::witnessing::witness_order;
 use nvm_record::NoMemory;
 use nvm_standard::{

@@ -4,10 +4,10 @@ ghost use Rattle.nvm_file.specs.Fields.{items_at};
 ghost use Rattle.nvm_evidence.specs.Fields.{Gives, counted_at};
 ghost use Rattle.nvm_evidence.specs.OrderReading.{content_at, first_at, order_at, placed_at, seen_held_order, these_at, value_at};
 
+use crate::evidence::HeldOrder;
 use crate::evidence_fault::EvidenceFault;
 use crate::fields::{bytes_of, kind_of, offset_of, u32_of, u64_of};
 use crate::front::{ORDER, front_of};
-use crate::held_order::HeldOrder;
 use nvm_standard::{Content, FirstContent, Order, Placed, Value};
 use std::alloc::Global;
 

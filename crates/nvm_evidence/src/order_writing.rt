@@ -53,8 +53,7 @@ fn push_content(bytes: &mut Vec<u8>, content: Content<'_>) -> Result<(), AllocEr
         Content::Bytes(held) => {
             bytes.push(3)?;
             push_u64(bytes, held.len() as u64)?;
-            bytes.extend_from_slice(held)?;
-            Ok(())
+            bytes.extend_from_slice(held)
         }
         Content::Mark => Ok(bytes.push(4)?),
     }

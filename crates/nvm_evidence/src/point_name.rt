@@ -3,30 +3,17 @@ use nvm_standard::Points;
 use std::fmt;
 use std::fmt::{Display, Formatter};
 
-/// What of its command a point is.
-#[derive(Clone, Copy)]
-enum Half {
-    /// Not one of a pair's two.
-    Neither,
-    Compare,
-    Write,
-}
-
-/// A point's command, and what of it the point is.
+/// A point's command, and, behind that, which of a pair's two the point is, if it is one.
 #[derive(Clone, Copy)]
 pub(crate) struct PointName {
-    pub(crate) job: u32,
-    half: Half,
+    job: u32,
+    half: &'static str,
 }
 
 impl Display for PointName {
     fn fmt<W: fmt::Write>(&self, f: &mut Formatter<W>) -> fmt::Result {
-        let job = self.job;
-        match self.half {
-            Half::Neither => write!(f, "job {job}"),
-            Half::Compare => write!(f, "job {job}'s Compare"),
-            Half::Write => write!(f, "job {job}'s Write"),
-        }
+        let PointName { job, half } = *self;
+        write!(f, "job {job}{half}")
     }
 }
 
@@ -38,19 +25,26 @@ fn is_write(points: &Points<'_>, place: usize) -> bool {
     }
 }
 
-/// The name of the point of this number. One that the table hasn't is named as if its number were a command's.
-pub(crate) fn name_of(points: &Points<'_>, number: u32) -> PointName {
-    let place = number as usize;
-    let job = match points.points.get(place) {
+/// The number of the command of the point of this number. Where the table hasn't the point, its own number stands for a command's.
+pub(crate) fn command_of(points: &Points<'_>, number: u32) -> u32 {
+    match points.points.get(number as usize) {
         Some(point) => point.command,
         None => number,
-    };
+    }
+}
+
+/// The name of the point of this number.
+pub(crate) fn name_of(points: &Points<'_>, number: u32) -> PointName {
+    let place = number as usize;
     let half = if is_write(points, place) {
-        Half::Write
+        "'s Write"
     } else if is_write(points, place + 1) {
-        Half::Compare
+        "'s Compare"
     } else {
-        Half::Neither
+        ""
     };
-    PointName { job, half }
+    PointName {
+        job: command_of(points, number),
+        half,
+    }
 }

@@ -1,26 +1,5 @@
 //! Which point a fact puts before which.
-use crate::point_name::{PointName, name_of};
-use nvm_standard::{Fact, Points};
-use std::fmt;
-use std::fmt::{Display, Formatter};
-
-/// That a point comes before another, in a block if one is named.
-#[derive(Clone, Copy)]
-pub(crate) struct Precedence {
-    pub(crate) before: PointName,
-    pub(crate) after: PointName,
-    pub(crate) lba: Option<u32>,
-}
-
-impl Display for Precedence {
-    fn fmt<W: fmt::Write>(&self, f: &mut Formatter<W>) -> fmt::Result {
-        write!(f, "{} comes before {}", self.before, self.after)?;
-        match self.lba {
-            Some(lba) => write!(f, " in LBA {lba}"),
-            None => Ok(()),
-        }
-    }
-}
+use nvm_standard::Fact;
 
 /// The numbers of two points of which the one comes before the other, in a block if one is named.
 #[derive(Clone, Copy)]
@@ -77,16 +56,4 @@ pub(crate) fn order_of(fact: Fact) -> Option<PointOrder> {
         } => (entry, reader, Some(block)),
     };
     Some(PointOrder { before, after, lba })
-}
-
-/// Which point the fact puts before which, if it says so.
-pub(crate) fn precedence_of(points: &Points<'_>, fact: Fact) -> Option<Precedence> {
-    match order_of(fact) {
-        Some(order) => Some(Precedence {
-            before: name_of(points, order.before),
-            after: name_of(points, order.after),
-            lba: order.lba,
-        }),
-        None => None,
-    }
 }

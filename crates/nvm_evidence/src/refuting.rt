@@ -6,8 +6,8 @@ ghost use Rattle.nvm_evidence.specs.ContradictionReading.{IsContradictionFile};
 ghost use Rattle.nvm_evidence.specs.Refuted.{AreRefutedFiles, IsRefuted, IsRefuteFault};
 
 use crate::contradiction_reading::read_contradiction;
+use crate::evidence::HeldContradiction;
 use crate::evidence_fault::EvidenceFault;
-use crate::held_contradiction::HeldContradiction;
 use crate::named::commands_named;
 use crate::refute_fault::RefuteBytesFault;
 use crate::refuted::Refuted;

@@ -1,6 +1,7 @@
 //! What a contradiction comes to, in a sentence for whoever has to mend the device.
 use crate::blocks::{Other, found_at, is_before, is_named, other_at, was_at_first};
-use crate::sources::{Torn, command_of, torn_of, writers_of};
+use crate::point_name::command_of;
+use crate::sources::{Owner, are_torn, parts_of, writers_of};
 use nvm_record::NoMemory;
 use nvm_standard::{Conclusion, Contradiction, Fact, Found, Point, Points};
 use std::alloc::Global;
@@ -73,13 +74,10 @@ fn half_done(facts: &[Fact]) -> Option<HalfDone> {
 
 /// Whether one of the facts says that the reader found what the writer put in the block that is done.
 fn is_source(facts: &[Fact], found: HalfDone) -> bool {
-    facts.iter().any(|fact| match *fact {
-        Fact::Source {
-            writer,
-            reader,
-            block,
-        } => writer == found.writer && reader == found.reader && block == found.done,
-        _ => false,
+    facts.contains(&Fact::Source {
+        writer: found.writer,
+        reader: found.reader,
+        block: found.done,
     })
 }
 
@@ -191,9 +189,12 @@ fn push_read(
         )?;
         return push_since(text, points, facts, read, None);
     }
-    match torn_of(alloc, points, read.point, block, read.bytes)? {
-        Some(torn) => push_torn(text, job, block, torn),
-        None => write!(
+    let parts = parts_of(alloc, points, read.point, block, read.bytes)?;
+    match parts.as_slice() {
+        [first, second, ..] if are_torn(&parts) => {
+            push_torn(text, job, block, first.owner, second.owner)
+        }
+        _ => write!(
             text,
             "Job {job} found in LBA {block} bytes that no other command put there."
         ),
@@ -306,17 +307,23 @@ fn better(first: Option<Between>, second: Option<Between>) -> Option<Between> {
     }
 }
 
-/// Appends that the block is torn.
-fn push_torn(text: &mut String, job: u32, block: u32, torn: Torn) -> Result<(), NoMemory> {
-    match (torn.first, torn.second) {
-        (Some(first), Some(second)) => write!(
+/// Appends that the block is torn, and whose its first two parts are.
+fn push_torn(
+    text: &mut String,
+    job: u32,
+    block: u32,
+    first: Owner,
+    second: Owner,
+) -> Result<(), NoMemory> {
+    match (first, second) {
+        (Owner::Job(first), Owner::Job(second)) => write!(
             text,
             "Job {job} found LBA {block} torn: one part of it is of job {first}, another of job {second}."
         ),
-        (Some(one), None) | (None, Some(one)) => write!(
+        (Owner::Job(one), _) | (_, Owner::Job(one)) => write!(
             text,
             "Job {job} found LBA {block} torn: one part of it is of job {one}, another still as it was at first."
         ),
-        (None, None) => write!(text, "Job {job} found LBA {block} torn."),
+        _ => write!(text, "Job {job} found LBA {block} torn."),
     }
 }

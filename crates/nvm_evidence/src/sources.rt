@@ -1,5 +1,6 @@
 //! Whose data a command of a trace found in a block.
 use crate::blocks::{found_at, put_at, puts, was_at_first};
+use crate::point_name::command_of;
 use nvm_record::NoMemory;
 use nvm_standard::{Point, Points};
 use std::alloc::Global;
@@ -13,7 +14,7 @@ const CHANCE: usize = 8;
 
 /// Whose a part of a block's bytes are.
 #[derive(Clone, Copy, Debug, PartialEq, Eq)]
-enum Owner {
+pub(crate) enum Owner {
     /// No command put them there.
     Nobody,
     /// They are zeroes, as all was at first.
@@ -24,10 +25,10 @@ enum Owner {
 
 /// A part of a block's bytes, and whose they are.
 #[derive(Clone, Copy, Debug)]
-struct Part {
+pub(crate) struct Part {
     from: usize,
     to: usize,
-    owner: Owner,
+    pub(crate) owner: Owner,
 }
 
 /// How many bytes both begin with.
@@ -42,12 +43,10 @@ fn common(one: &[u8], other: &[u8]) -> usize {
 
 /// How many zeroes the bytes begin with.
 fn zeroes(bytes: &[u8]) -> usize {
-    for (place, byte) in bytes.iter().enumerate() {
-        if *byte != 0 {
-            return place;
-        }
-    }
-    bytes.len()
+    bytes
+        .iter()
+        .position(|byte| *byte != 0)
+        .unwrap_or(bytes.len())
 }
 
 /// The bytes from this place on.
@@ -91,7 +90,7 @@ fn longest_from(
 }
 
 /// The parts of the bytes, each as long as can be.
-fn parts_of(
+pub(crate) fn parts_of(
     alloc: Global,
     points: &Points<'_>,
     reader: &Point<'_>,
@@ -146,24 +145,16 @@ pub(crate) fn writers_of(
     Ok(writers)
 }
 
-/// The number of the command of a point.
-pub(crate) fn command_of(points: &Points<'_>, number: u32) -> u32 {
-    match points.points.get(number as usize) {
-        Some(point) => point.command,
-        None => number,
-    }
-}
-
-/// Appends whose data the reader found in the block, if it found bytes there.
-pub(crate) fn push_source(
+/// Whose data the reader found in the block, or nothing if it found no bytes there.
+pub(crate) fn source_of(
     alloc: Global,
-    text: &mut String,
     points: &Points<'_>,
     reader: &Point<'_>,
     block: u32,
-) -> Result<(), NoMemory> {
+) -> Result<String, NoMemory> {
+    let mut text = String::new(alloc);
     let Some(bytes) = found_at(points, reader, block) else {
-        return Ok(());
+        return Ok(text);
     };
     let writers = writers_of(alloc, points, reader, block, bytes)?;
     if was_at_first(points, bytes) {
@@ -173,9 +164,10 @@ pub(crate) fn push_source(
         }
     } else if writers.is_empty() {
         let parts = parts_of(alloc, points, reader, block, bytes)?;
-        return push_parts(text, &parts);
+        push_parts(&mut text, &parts)?;
     }
-    push_writers(text, points, &writers)
+    push_writers(&mut text, points, &writers)?;
+    Ok(text)
 }
 
 /// Appends the names of the commands of these points.
@@ -195,7 +187,7 @@ fn push_writers(text: &mut String, points: &Points<'_>, writers: &[u32]) -> Resu
 }
 
 /// Whether the parts are of several commands, and each is of one.
-fn are_torn(parts: &[Part]) -> bool {
+pub(crate) fn are_torn(parts: &[Part]) -> bool {
     parts.len() > 1 && !parts.iter().any(|part| part.owner == Owner::Nobody)
 }
 
@@ -226,39 +218,4 @@ fn push_part(text: &mut String, part: Part) -> Result<(), NoMemory> {
         Owner::Zeroes => text.push_str("the first zeroes"),
         Owner::Job(job) => write!(text, "job {job}"),
     }
-}
-
-/// Two commands of which a torn block has bytes, or nobody where it has some of none.
-#[derive(Clone, Copy)]
-pub(crate) struct Torn {
-    pub(crate) first: Option<u32>,
-    pub(crate) second: Option<u32>,
-}
-
-/// The command that put the part, if one did.
-fn job_of(part: Option<&Part>) -> Option<u32> {
-    match part {
-        Some(part) => match part.owner {
-            Owner::Job(job) => Some(job),
-            Owner::Nobody | Owner::Zeroes => None,
-        },
-        None => None,
-    }
-}
-
-/// Whose the first two parts of a torn block are, if it is torn.
-pub(crate) fn torn_of(
-    alloc: Global,
-    points: &Points<'_>,
-    reader: &Point<'_>,
-    block: u32,
-    bytes: &[u8],
-) -> Result<Option<Torn>, NoMemory> {
-    let parts = parts_of(alloc, points, reader, block, bytes)?;
-    if !are_torn(&parts) {
-        return Ok(None);
-    }
-    let first = job_of(parts.first());
-    let second = job_of(parts.get(1));
-    Ok(Some(Torn { first, second }))
 }

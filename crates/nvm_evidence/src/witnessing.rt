@@ -5,8 +5,8 @@ ghost use Rattle.nvm_trace.specs.TraceView.{TraceView};
 ghost use Rattle.nvm_evidence.specs.OrderReading.{IsOrderFile, seen_held_order};
 ghost use Rattle.nvm_evidence.specs.Witnessed.{AreOrderedFiles, IsOrdered, IsOrderFault};
 
+use crate::evidence::HeldOrder;
 use crate::evidence_fault::EvidenceFault;
-use crate::held_order::HeldOrder;
 use crate::order_reading::read_order;
 use crate::ordered::{OrderNumbers, Ordered};
 use crate::trace_reading::trace_of;

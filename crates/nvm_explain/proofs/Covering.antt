@@ -4,17 +4,15 @@ use Rattle.std.specs.Prelude.{slice_get}
 use Rattle.std.proofs.lemmas.List.Elements.{All-take}
 use mathlib.Core.Option.{some}
 use Rattle.nvm_record.specs.Lists.{IsAt}
-use Rattle.nvm_record.specs.Step.{Operation}
 use Rattle.nvm_geometry.specs.Namespace.{Namespace}
 use Rattle.nvm_geometry.specs.Place.{IsPlaceOf}
 use Rattle.nvm_plan.specs.UnitPlace.{IsUnitPlace}
 use Rattle.nvm_store.specs.declared.place.Place.{Place}
-use Rattle.nvm_store.specs.Contents.{Contents, Covers, place_of}
 use Rattle.nvm_store.specs.HistoryEntry.{HistoryEntry}
 use Rattle.nvm_store.specs.Place.{IsCovered, place_at}
 use Rattle.nvm_audit.specs.Recordable.{IsRecordableHistory}
 use Rattle.nvm_audit.specs.RecordView.{RecordView}
-use Rattle.nvm_explain.specs.UnitAt.{AreCovered, AreCoveredIn, IsAtPoint, IsCoveredIn}
+use Rattle.nvm_explain.specs.UnitAt.{AreCovered, AreCoveredIn}
 
 -- a unit has one place
 abbrev pub OnePlace : Type 0
@@ -72,14 +70,7 @@ covered_front ns unit n place history held lies =
     record { each = All-take (λ entry. IsCovered place entry.operation) n history (held.covered place lies).each }
 
 pub covered_got : (ns : Namespace) (unit i : ℕ) (history : List HistoryEntry) (entry : HistoryEntry) → AreCoveredIn ns unit history
-    → slice_get history i ≡ Some entry → IsCoveredIn ns unit entry.operation
-covered_got ns unit i history entry held got =
-    record {
-      covered = λ place lies.
-          subst (λ (e : HistoryEntry). IsCovered place e.operation) (got_read history i entry got)
-          ((held.covered place lies).each i entry (got_below history i entry got));
-    }
-
-pub covered_here : (ns : Namespace) (unit at : ℕ) (history : List HistoryEntry) (op : Operation) (blocks : Contents)
-    → IsCoveredIn ns unit op → IsAtPoint ns unit history at blocks → Covers blocks op
-covered_here ns unit at history op blocks held here = held.covered (place_of blocks) here.lies
+    → slice_get history i ≡ Some entry → (place : Place) → IsUnitPlace ns unit place → IsCovered place entry.operation
+covered_got ns unit i history entry held got place lies =
+    subst (λ (e : HistoryEntry). IsCovered place e.operation) (got_read history i entry got)
+    ((held.covered place lies).each i entry (got_below history i entry got))

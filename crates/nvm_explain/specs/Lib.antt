@@ -1,6 +1,5 @@
 pub mod LastChange
 pub mod Difference
-pub mod Comparison
 pub mod Given
 pub mod Reached
 pub mod UnitAt

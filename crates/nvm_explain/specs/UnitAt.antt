@@ -2,7 +2,6 @@
 use Rattle.std.specs.Prelude.{◌≡◌, ℕ, List, true}
 use Rattle.std.specs.List.{All}
 use Rattle.nvm_record.specs.Medium.{zero_medium}
-use Rattle.nvm_record.specs.Step.{Operation}
 use Rattle.nvm_geometry.specs.Namespace.{Namespace}
 use Rattle.nvm_plan.specs.UnitPlace.{IsUnitPlace}
 use Rattle.nvm_store.specs.declared.place.Place.{Place}
@@ -12,10 +11,6 @@ use Rattle.nvm_store.specs.HistoryEntry.{HistoryEntry}
 use Rattle.nvm_store.specs.Place.{IsCovered}
 use Rattle.nvm_store.specs.Point.{point}
 use Rattle.nvm_explain.specs.Reached.{all_succeed, is_reached}
-
--- The unit of this number covers the operation.
-pub record IsCoveredIn (ns : Namespace) (unit : ℕ) (op : Operation) : Type 0 where
-  pub covered : (place : Place) → IsUnitPlace ns unit place → IsCovered place op
 
 -- The place covers what each of these entries does.
 pub record AreCovered (place : Place) (entries : List HistoryEntry) : Type 0 where

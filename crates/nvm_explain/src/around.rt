@@ -25,9 +25,17 @@ pub(crate) fn push_around(
     let Some(history) = entries_of(run, spot.unit) else {
         return Ok(());
     };
-    let at = (spot.place as usize).min(history.len());
-    push_place(text, &run.geometry, run.limit, spot.unit, history.len())?;
-    push_entries_round(text, spot, job, at, history)
+    let Spot { unit, place } = spot;
+    push_place(text, &run.geometry, run.limit, unit, history.len())?;
+    let at = (place as usize).min(history.len());
+    let before = &history[..at];
+    let from = at.saturating_sub(BEFORE);
+    push_entries(text, unit, from, &before[from..])?;
+    if let Some(job) = job {
+        write!(text, "unit {unit} point {place} rests job {job}\n")?;
+    }
+    let after = &history[at..];
+    push_entries(text, unit, at, &after[..after.len().min(FROM)])
 }
 
 /// Appends where the unit lies, how many entries it has, and how many it may have.
@@ -47,33 +55,6 @@ fn push_place(
         text,
         "unit {unit} first {first} blocks {blocks} entries {entries} limit {limit}\n"
     )
-}
-
-/// Appends the entries before a place and those from it on, with the part between that rests there.
-fn push_entries_round(
-    text: &mut String,
-    spot: Spot,
-    job: Option<u32>,
-    at: usize,
-    history: &[Entry],
-) -> Result<(), NoMemory>
-    requires { at ≤ length history.now }
-{
-    let before = &history[..at];
-    let from = at.saturating_sub(BEFORE);
-    push_entries(text, spot.unit, from, &before[from..])?;
-    push_rest(text, spot, job)?;
-    let after = &history[at..];
-    push_entries(text, spot.unit, at, &after[..after.len().min(FROM)])
-}
-
-/// Appends that a part of the job rests there, if there is one.
-fn push_rest(text: &mut String, spot: Spot, job: Option<u32>) -> Result<(), NoMemory> {
-    let Spot { unit, place } = spot;
-    match job {
-        Some(job) => write!(text, "unit {unit} point {place} rests job {job}\n"),
-        None => Ok(()),
-    }
 }
 
 /// Appends the lines of entries, of which the first has place `from`.

@@ -1,9 +1,7 @@
 //! What is said of a comparison that is recorded as equal where it isn't, or as one that didn't hold where no byte differs.
-ghost use Rattle.std.specs.Prelude.{◌≡◌};
 ghost use Rattle.nvm_plan.specs.LentPart.{part_operation_of};
 ghost use Rattle.nvm_store.specs.Contents.{Covers, place_of};
 ghost use Rattle.nvm_store.specs.Place.{IsWithin};
-ghost use Rattle.nvm_explain.specs.Comparison as spec;
 
 use crate::difference::{difference_of, push_difference};
 use crate::unit_at::UnitAt;
@@ -70,18 +68,13 @@ fn push_compared(
         return Ok(());
     };
     let (Statuses::One(status) | Statuses::Two(status, _)) = recorded;
+    // Whether it is recorded as one that didn't hold, by its status or by how the part of a pair ended.
+    let is_failed = ended == PartResult::Failed || status != Status::SUCCESSFUL_COMPLETION;
     match difference_of(first, at.blocks.place().size, bytes, held.as_slice()) {
-        None if is_failed(status, ended) => write!(text, "first difference: none\n"),
+        None if is_failed => write!(text, "first difference: none\n"),
         Some(found) if status != Status::COMPARE_FAILURE => {
             push_difference(text, " compared ", " held ", at, Some(found))
         }
         _ => Ok(()),
     }
-}
-
-/// Whether the comparison is recorded as one that didn't hold: by its status, or by how the part of a pair ended.
-fn is_failed(status: Status, ended: PartResult) -> bool
-    ensures { result ≡ spec.is_failed status ended }
-{
-    ended == PartResult::Failed || status != Status::SUCCESSFUL_COMPLETION
 }

@@ -2,10 +2,11 @@
 ghost use Rattle.std.specs.Prelude.{◌≡◌};
 ghost use Rattle.nvm_explain.specs.Difference as spec;
 
-use crate::last_change::push_last_change;
+use crate::changes::last_change;
 use crate::unit_at::UnitAt;
 use nvm_geometry::MOST_BLOCKS;
-use nvm_record::{BlockSize, NoMemory};
+use nvm_listing::push_entry;
+use nvm_record::{BlockSize, LbaRange, NoMemory};
 use nvm_text::HexByte;
 
 /// A byte of data that isn't the byte of other data at its place.
@@ -75,4 +76,17 @@ pub(crate) fn push_byte(
         text,
         "first difference: LBA {lba} byte {offset}{words}{byte}{others}{other}\n"
     )
+}
+
+/// Appends which of the unit's entries before changed the block of this LBA last, or that none did.
+fn push_last_change(text: &mut String, at: &UnitAt<'_>, lba: u64) -> Result<(), NoMemory> {
+    write!(text, "last change of LBA {lba}: ")?;
+    let block = LbaRange {
+        first: lba,
+        blocks: 1,
+    };
+    match last_change(at.before, block) {
+        Some((place, entry)) => push_entry(text, usize::from(at.unit), place, entry),
+        None => write!(text, "none\n"),
+    }
 }

@@ -1,10 +1,11 @@
 ghost use Rattle.nvm_store.specs.Contents.{Covers};
 
 use crate::comparison::push_comparison;
+use crate::difference::push_byte;
 use crate::given::{OutcomeText, given_on, push_operation};
 use crate::looked_up::{entries_of, job_of};
 use crate::unit_at::{UnitAt, unit_at};
-use crate::written::push_written;
+use crate::written::written_apart;
 use nvm_audit::{Record, Spot};
 use nvm_listing::push_entry;
 use nvm_plan::{LentPart, PartResult, job_part_in};
@@ -30,8 +31,7 @@ pub(crate) fn push_entry_story(
     };
     text.push_str("recorded: ")?;
     push_entry(text, usize::from(unit), place as usize, entry)?;
-    push_own_part(text, alloc, run, number, unit)?;
-    push_written(text, run, number, unit, entry)?;
+    push_own_part(text, alloc, run, number, unit, entry)?;
     match unit_at(alloc, &run.geometry, unit, history, place)? {
         Some(at) => push_given(text, alloc, &at, entry),
         None => Ok(()),
@@ -56,23 +56,27 @@ fn push_given(
     push_comparison(text, alloc, at, &act, recorded, PartResult::Done)
 }
 
-/// Appends the part that the job of this number has in the unit, if there is such a job.
+/// Appends the part that the job of this number has in the unit, if there is such a job, and the first byte that the entry writes
+/// otherwise, where both write the same number of blocks from one LBA.
 fn push_own_part(
     text: &mut String,
     alloc: Global,
     run: &Record,
     number: u32,
     unit: u16,
+    entry: &Entry,
 ) -> Result<(), NoMemory> {
     let Some(job) = job_of(run, number) else {
         return Ok(());
     };
-    match job_part_in(&run.geometry, job, unit) {
-        Some(part) => {
-            text.push_str("the job's part:")?;
-            push_operation(text, alloc, &part)?;
-            write!(text, "\n")
-        }
-        None => write!(text, "the job's part: none\n"),
+    let Some(part) = job_part_in(&run.geometry, job, unit) else {
+        return text.push_str("the job's part: none\n");
+    };
+    text.push_str("the job's part:")?;
+    push_operation(text, alloc, &part)?;
+    text.push_str("\n")?;
+    match written_apart(run.geometry.block_size(), &entry.act, &part) {
+        Some(found) => push_byte(text, " recorded ", " sent ", found),
+        None => Ok(()),
     }
 }

@@ -1,12 +1,12 @@
 use crate::around::push_around;
 use crate::entry_story::push_entry_story;
-use crate::job_story::push_job;
+use crate::jobs::push_job;
 use crate::meaning::sense;
 use crate::part_story::push_part_story;
 use crate::passed::push_passed;
 use crate::shape_story::push_shape;
 use crate::summary::push_summary;
-use nvm_audit::{AuditFault, Record, Verdict, Watcher, audit_watched};
+use nvm_audit::{AuditFault, Record, Watcher, audit_watched};
 use nvm_listing::{push_fault, push_verdict};
 use nvm_record::NoMemory;
 use std::alloc::{AllocError, Global};
@@ -22,32 +22,42 @@ pub fn explain<W: Watcher + Sync>(
     run: &Record,
     watcher: &W,
 ) -> Result<String, NoMemory> {
+    let mut text = String::new(alloc);
+    push_explanation(&mut text, rt, alloc, run, watcher)?;
+    Ok(text)
+}
+
+/// Appends what [`explain`] gives.
+pub(crate) fn push_explanation<W: Watcher + Sync>(
+    text: &mut String,
+    rt: &(impl Threads + Sync),
+    alloc: Global,
+    run: &Record,
+    watcher: &W,
+) -> Result<(), NoMemory> {
     match audit_watched(rt, alloc, run, watcher) {
-        Ok(verdict) => lawful_explanation(alloc, run, verdict),
-        Err(fault) => fault_explanation(alloc, run, fault),
+        Ok(verdict) => {
+            push_verdict(text, verdict)?;
+            push_summary(text, alloc, run)
+        }
+        Err(fault) => push_fault_story(text, alloc, run, fault),
     }
 }
 
-/// What is said of a lawful record.
-fn lawful_explanation(alloc: Global, run: &Record, verdict: Verdict) -> Result<String, NoMemory> {
-    let mut text = String::new(alloc);
-    push_verdict(&mut text, verdict)?;
-    push_summary(&mut text, alloc, run)?;
-    Ok(text)
-}
-
-/// What is said of a record with this first fault. Refused memory is none: it is answered.
-fn fault_explanation(alloc: Global, run: &Record, fault: AuditFault) -> Result<String, NoMemory> {
+/// Appends what is said of a record with this first fault. Refused memory is none: it is answered.
+fn push_fault_story(
+    text: &mut String,
+    alloc: Global,
+    run: &Record,
+    fault: AuditFault,
+) -> Result<(), NoMemory> {
     let Some(job) = fault.job() else {
         return Err(AllocError);
     };
-    let name = fault.name();
-    let mut text = String::new(alloc);
-    push_fault(&mut text, fault)?;
-    write!(text, "{name}{}", sense(fault))?;
-    push_job(&mut text, run, job)?;
-    push_details(&mut text, alloc, run, job, fault)?;
-    Ok(text)
+    push_fault(text, fault)?;
+    write!(text, "{}{}", fault.name(), sense(fault))?;
+    push_job(text, run, job)?;
+    push_details(text, alloc, run, job, fault)
 }
 
 /// Appends what the record shows of this job's fault, beside the job.

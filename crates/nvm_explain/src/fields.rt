@@ -9,8 +9,9 @@ mod record;
 mod trace;
 mod walk;
 
-use crate::fields::record::told_in_record;
-use crate::fields::trace::told_in_trace;
+use crate::fields::record::found_in_record;
+use crate::fields::trace::found_in_trace;
+use crate::fields::walk::Walk;
 use nvm_record::NoMemory;
 use std::alloc::Global;
 
@@ -20,16 +21,11 @@ use std::alloc::Global;
 /// It is one pass over the fields up to the offset, and takes 16 bytes of memory for each job of a record. `NoMemory` is answered where a growth
 /// was refused.
 pub fn field_told(alloc: Global, bytes: &[u8], at: u64) -> Result<Option<String>, NoMemory> {
-    let at = at as usize;
-    let told = if bytes.starts_with(b"NVR") {
-        told_in_record(alloc, bytes, at)?
-    } else if bytes.starts_with(b"NVT") {
-        told_in_trace(alloc, bytes, at)?
+    let mut walk = Walk::new(alloc, bytes, at as usize);
+    let is_found = if bytes.starts_with(b"NVR") {
+        found_in_record(alloc, &mut walk)?
     } else {
-        None
+        bytes.starts_with(b"NVT") && found_in_trace(&mut walk)?
     };
-    match told {
-        Some(field) => Ok(Some(format!(in alloc; "it is {field}")?)),
-        None => Ok(None),
-    }
+    Ok(if is_found { Some(walk.told()) } else { None })
 }

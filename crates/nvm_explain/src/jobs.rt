@@ -1,10 +1,9 @@
 //! What a trace and a record have as the job of a number.
 
-use crate::job_story::push_job as push_recorded_job;
 use nvm_audit::Record;
-use nvm_plan::Job;
+use nvm_listing::{push_body, push_done};
 use nvm_record::NoMemory;
-use nvm_trace::{Cut, Owner, TracedJob};
+use nvm_trace::{Cut, Owner};
 use nvm_trace_text::push_job as push_traced_job;
 use std::fmt;
 use std::fmt::{Display, Formatter};
@@ -29,27 +28,17 @@ pub(crate) fn push_traced(
     pieces: &[Owner<'_>],
     number: u32,
 ) -> Result<(), NoMemory> {
-    let place = number as usize;
-    if place >= pieces.len() {
-        return push_no_piece(text, number);
+    match pieces.get(number as usize) {
+        Some(owner) => {
+            let cut = CutText(owner.cut);
+            write!(text, "as job {number} the trace has{cut}: ")?;
+            push_traced_job(text, owner.whole)
+        }
+        None => write!(
+            text,
+            "as job {number} the trace has nothing, so it is a preparation\n"
+        ),
     }
-    let owner = pieces[place];
-    push_piece(text, number, owner.whole, owner.cut)
-}
-
-/// Appends that a trace has nothing as the job of this number.
-fn push_no_piece(text: &mut String, number: u32) -> Result<(), NoMemory> {
-    write!(
-        text,
-        "as job {number} the trace has nothing, so it is a preparation\n"
-    )
-}
-
-/// Appends the piece that a trace has as the job of this number.
-fn push_piece(text: &mut String, number: u32, whole: &TracedJob, cut: Cut) -> Result<(), NoMemory> {
-    let cut = CutText(cut);
-    write!(text, "as job {number} the trace has{cut}: ")?;
-    push_traced_job(text, whole)
 }
 
 /// Appends what a record has as the job of this number, and what was done of it.
@@ -58,14 +47,26 @@ pub(crate) fn push_recorded(
     record: &Record,
     number: u32,
 ) -> Result<(), NoMemory> {
-    push_head(text, &record.jobs, number)?;
-    push_recorded_job(text, record, number)
+    let has = match record.jobs.get(number as usize) {
+        Some(_) => "has:",
+        None => "has nothing",
+    };
+    write!(text, "as job {number} the record {has}\n")?;
+    push_job(text, record, number)
 }
 
-/// Appends whether a record of these jobs has one of this number.
-fn push_head(text: &mut String, jobs: &[Job], number: u32) -> Result<(), NoMemory> {
-    match jobs.get(number as usize) {
-        Some(_) => write!(text, "as job {number} the record has:\n"),
-        None => write!(text, "as job {number} the record has nothing\n"),
+/// Appends the lines of a job's commands, and of what was done of the job, as a record's listing has them. Where memory is refused the
+/// text has what it had, and maybe a front of the lines.
+pub(crate) fn push_job(text: &mut String, run: &Record, number: u32) -> Result<(), NoMemory> {
+    if let Some(job) = run.jobs.get(number as usize) {
+        push_body(text, number as usize, job.host, &job.body)?;
     }
+    for (worker, work) in run.done.iter().enumerate() {
+        for done in work {
+            if done.job == number {
+                push_done(text, worker, done)?;
+            }
+        }
+    }
+    Ok(())
 }

@@ -34,17 +34,16 @@ pub(crate) fn push_late(
 ) -> Result<(), NoMemory> {
     push_step(text, pieces, late)?;
     push_step(text, pieces, earlier)?;
-    push_order(text, earlier, late)
+    let (job, began) = (earlier.job, earlier.began);
+    let (other, unit, ended) = (late.job, late.unit, TimeText(late.ended));
+    write!(
+        text,
+        "job {job} began at {began}, after job {other} had ended at {ended}, and stands before it in unit {unit}\n"
+    )
 }
 
-/// Appends what the trace has as the step's job, and the step.
+/// Appends what the trace has as the step's job, and the line of the step.
 fn push_step(text: &mut String, pieces: &[Owner<'_>], step: Step) -> Result<(), NoMemory> {
-    push_traced(text, pieces, step.job)?;
-    push_step_line(text, step)
-}
-
-/// Appends the line of a step.
-fn push_step_line(text: &mut String, step: Step) -> Result<(), NoMemory> {
     let Step {
         job,
         unit,
@@ -53,30 +52,13 @@ fn push_step_line(text: &mut String, step: Step) -> Result<(), NoMemory> {
         began,
         ended,
     } = step;
-    let entry = entry_word(made);
+    push_traced(text, pieces, job)?;
+    let entry = if made { "entry" } else { "no-entry" };
     let ended = TimeText(ended);
     write!(
         text,
         "job {job} unit {unit} point {point} {entry} began {began} ended {ended}\n"
     )
-}
-
-/// Appends why the two are in the wrong order.
-fn push_order(text: &mut String, earlier: Step, late: Step) -> Result<(), NoMemory> {
-    let job = earlier.job;
-    let began = earlier.began;
-    let other = late.job;
-    let ended = TimeText(late.ended);
-    let unit = late.unit;
-    write!(
-        text,
-        "job {job} began at {began}, after job {other} had ended at {ended}, and stands before it in unit {unit}\n"
-    )
-}
-
-/// Whether a step made an entry, as a word.
-fn entry_word(made: bool) -> &'static str {
-    if made { "entry" } else { "no-entry" }
 }
 
 /// A time, or `-` for none.

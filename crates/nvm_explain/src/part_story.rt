@@ -12,8 +12,7 @@ use crate::recorded_data::recorded_data;
 use crate::unit_at::{UnitAt, unit_at};
 use nvm_audit::{Record, Spot};
 use nvm_plan::{LentPart, job_part_in};
-use nvm_record::{BlockSize, NoMemory, Statuses};
-use nvm_store::{ActRef, Look};
+use nvm_record::{BlockSize, NoMemory};
 use std::alloc::Global;
 
 /// Appends what the part of this job in the unit does, what is recorded of it, and what the step gives at its point, if each entry
@@ -60,10 +59,16 @@ fn push_part(
     requires { Covers at.now.blocks (part_operation_of part.now) }
 {
     let given = given_on(alloc, &at.blocks, part)?;
-    push_what(text, alloc, at.unit, recorded.part.point, part)?;
-    push_outcomes(text, recorded.statuses, payload, &given)?;
+    write!(text, "part: unit {} point {}", at.unit, recorded.part.point)?;
+    push_operation(text, alloc, part)?;
+    let ended = OutcomeText(recorded.statuses, payload);
+    let gives = OutcomeText(given.statuses, given.data());
+    write!(
+        text,
+        "\nrecorded: status {ended}\nthe step gives: status {gives}\n"
+    )?;
     let size = at.blocks.place().size;
-    let found = read_difference(first_of(part), size, payload, &given);
+    let found = read_difference(part.first(), size, payload, &given);
     push_difference(text, " recorded ", " given ", at, found)?;
     push_comparison(
         text,
@@ -72,34 +77,6 @@ fn push_part(
         part,
         recorded.statuses,
         recorded.part.result,
-    )
-}
-
-/// Appends in which unit and at which point the part is, and what it does.
-fn push_what(
-    text: &mut String,
-    alloc: Global,
-    unit: u16,
-    point: u32,
-    part: &LentPart<'_>,
-) -> Result<(), NoMemory> {
-    write!(text, "part: unit {unit} point {point}")?;
-    push_operation(text, alloc, part)?;
-    text.push_str("\n")
-}
-
-/// Appends how the part is recorded to have ended, with this data of a Read, and what the step gives.
-fn push_outcomes(
-    text: &mut String,
-    statuses: Statuses,
-    payload: Option<&[u8]>,
-    given: &Given,
-) -> Result<(), NoMemory> {
-    let recorded = OutcomeText(statuses, payload);
-    let gives = OutcomeText(given.statuses, given.data());
-    write!(
-        text,
-        "recorded: status {recorded}\nthe step gives: status {gives}\n"
     )
 }
 
@@ -115,21 +92,5 @@ fn read_difference(
     match (payload, given.data()) {
         (Some(bytes), Some(read)) => difference_of(first, size, bytes, read),
         _ => None,
-    }
-}
-
-/// The part's first LBA.
-fn first_of(part: &LentPart<'_>) -> u64
-    ensures { result ≡ (part_operation_of part.now).first }
-{
-    match *part {
-        LentPart::Look(Look::Read { first, .. } | Look::Compare { first, .. })
-        | LentPart::Act(
-            ActRef::Write { first, .. }
-            | ActRef::Zeroes { first, .. }
-            | ActRef::Uncorrectable { first, .. }
-            | ActRef::Pair { first, .. }
-            | ActRef::Deallocate { first, .. },
-        ) => first,
     }
 }

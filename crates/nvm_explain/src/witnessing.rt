@@ -1,13 +1,12 @@
-use crate::explaining::explain;
+use crate::explaining::push_explanation;
 use crate::jobs::{push_recorded, push_traced};
-use crate::namespaces::push_namespaces;
 use crate::ordering::{late_pair, push_late};
 use crate::witness_meaning::meaning;
 use nvm_audit::{Record, Spot, Unwatched};
+use nvm_geometry::Geometry;
+use nvm_listing::push_namespace;
 use nvm_record::NoMemory;
-use nvm_trace::{
-    Explained, Judging, Trace, WitnessFault, first_pieces, steps_of, traced_pieces, witness,
-};
+use nvm_trace::{Judging, Trace, WitnessFault, first_pieces, steps_of, traced_pieces, witness};
 use nvm_trace_text::{ExplainedLine, UnexplainedLine};
 use std::alloc::{AllocError, Global};
 use std::thread::Threads;
@@ -30,45 +29,20 @@ pub fn witness_story(
     trace: &Trace,
     record: &Record,
 ) -> Result<String, NoMemory> {
+    let mut text = String::new(alloc);
     match witness(rt, alloc, judging, trace, record) {
-        Ok(explained) => explained_story(rt, alloc, record, explained),
-        Err(WitnessFault::NoMemory) => Err(AllocError),
-        Err(fault) => unexplained_story(rt, alloc, judging, trace, record, fault),
+        Ok(explained) => {
+            write!(text, "{}", ExplainedLine(explained))?;
+            push_explanation(&mut text, rt, alloc, record, &Unwatched)?;
+        }
+        Err(fault) => push_unexplained(&mut text, rt, alloc, judging, trace, record, fault)?,
     }
-}
-
-/// What is told of a trace that the record explains with these numbers.
-fn explained_story(
-    rt: &(impl Threads + Sync),
-    alloc: Global,
-    record: &Record,
-    explained: Explained,
-) -> Result<String, NoMemory> {
-    let mut text = String::new(alloc);
-    write!(text, "{}", ExplainedLine(explained))?;
-    let told = explain(rt, alloc, record, &Unwatched)?;
-    text.push_str(told.as_str())?;
     Ok(text)
 }
 
-/// What is told of a trace and a record with this first fault.
-fn unexplained_story(
-    rt: &(impl Threads + Sync),
-    alloc: Global,
-    judging: Judging,
-    trace: &Trace,
-    record: &Record,
-    fault: WitnessFault,
-) -> Result<String, NoMemory> {
-    let mut text = String::new(alloc);
-    write!(text, "{}", UnexplainedLine(fault))?;
-    text.push_str(meaning(fault))?;
-    push_story(&mut text, rt, alloc, judging, trace, record, fault)?;
-    Ok(text)
-}
-
-/// Appends what the trace and the record show of the fault.
-fn push_story(
+/// Appends the fault's line, what such a fault means, and what the trace and the record show of it. Refused memory is none: it is
+/// answered.
+fn push_unexplained(
     text: &mut String,
     rt: &(impl Threads + Sync),
     alloc: Global,
@@ -77,21 +51,31 @@ fn push_story(
     record: &Record,
     fault: WitnessFault,
 ) -> Result<(), NoMemory> {
+    write!(text, "{}{}", UnexplainedLine(fault), meaning(fault))?;
     match fault {
         WitnessFault::NamespaceDiffers => push_namespaces(text, trace.geometry, record.geometry),
         WitnessFault::JobDiffers { job } | WitnessFault::ReplyDiffers { job } => {
             push_both(text, alloc, judging, trace, record, job)
         }
         WitnessFault::NoPreparation { job } => push_recorded(text, record, job),
-        WitnessFault::Unlawful { .. } => {
-            let told = explain(rt, alloc, record, &Unwatched)?;
-            text.push_str(told.as_str())
-        }
+        WitnessFault::Unlawful { .. } => push_explanation(text, rt, alloc, record, &Unwatched),
         WitnessFault::TimeBack { job, spot } => {
             push_order_of(text, alloc, judging, trace, record, job, spot)
         }
-        WitnessFault::NoMemory => Ok(()),
+        WitnessFault::NoMemory => Err(AllocError),
     }
+}
+
+/// Appends the namespaces of a trace and of a record.
+fn push_namespaces(
+    text: &mut String,
+    traced: Geometry,
+    recorded: Geometry,
+) -> Result<(), NoMemory> {
+    text.push_str("trace ")?;
+    push_namespace(text, traced)?;
+    text.push_str("record ")?;
+    push_namespace(text, recorded)
 }
 
 /// Appends what the trace has as the job of this number, and then the record.

@@ -1,39 +1,16 @@
-//! What is said of an entry that writes other data than its job.
+//! Where an entry writes other data than its job.
 ghost use Rattle.std.specs.Prelude.{◌≡◌, None, Some, MatchOption};
 ghost use Rattle.nvm_plan.specs.LentPart.{part_operation_of};
 ghost use Rattle.nvm_store.specs.Act.{operation_of};
 ghost use Rattle.nvm_explain.specs.Written as spec;
 
-use crate::difference::{Difference, difference_of, push_byte};
-use crate::looked_up::job_of;
-use nvm_audit::Record;
-use nvm_plan::{LentPart, job_part_in};
-use nvm_record::{BlockSize, NoMemory};
-use nvm_store::{Act, ActRef, Entry, Look};
-
-/// Appends the first byte that the entry writes otherwise than the part of its job in the unit, if there is such a job, where both write
-/// the same number of blocks from one LBA.
-pub(crate) fn push_written(
-    text: &mut String,
-    run: &Record,
-    number: u32,
-    unit: u16,
-    entry: &Entry,
-) -> Result<(), NoMemory> {
-    let Some(job) = job_of(run, number) else {
-        return Ok(());
-    };
-    let Some(part) = job_part_in(&run.geometry, job, unit) else {
-        return Ok(());
-    };
-    match written_apart(run.geometry.block_size(), &entry.act, &part) {
-        Some(found) => push_byte(text, " recorded ", " sent ", found),
-        None => Ok(()),
-    }
-}
+use crate::difference::{Difference, difference_of};
+use nvm_plan::LentPart;
+use nvm_record::BlockSize;
+use nvm_store::{Act, ActRef, Look};
 
 /// The first byte that an act writes otherwise than a part, where both write the same number of blocks from one LBA.
-fn written_apart(size: BlockSize, act: &Act, part: &LentPart<'_>) -> Option<Difference>
+pub(crate) fn written_apart(size: BlockSize, act: &Act, part: &LentPart<'_>) -> Option<Difference>
     ensures { result ≡ spec.written_apart size (operation_of act.now) (part_operation_of part.now) }
 {
     let (first, bytes) = written_by(act)?;

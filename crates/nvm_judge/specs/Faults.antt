@@ -1,9 +1,7 @@
 -- Why an order doesn't explain a trace, and why a contradiction isn't taken.
-use Rattle.nvm_standard.specs.Explanation.{IsExplanation}
 use Rattle.nvm_standard.specs.OrderView.{OrderView}
 use Rattle.nvm_standard.specs.RightFault.{IsOfOrder}
 use Rattle.nvm_standard.specs.declared.order_fault.OrderFault.{OrderFault}
-use Rattle.nvm_standard.specs.PointView.{TableView}
 use Rattle.nvm_standard.specs.declared.profile.Profile.{Profile}
 use Rattle.nvm_trace.specs.TraceView.{TraceView}
 use Rattle.nvm_judge.specs.Explained.{IsExplainedBy, IsWrong}
@@ -22,21 +20,9 @@ IsCheckFault t profile o (Wrong command) = IsWrong t profile command
 IsCheckFault t profile o (Order fault) = IsUnexplainedFor fault t profile o
 IsCheckFault t profile o NoMemory = Unit {0}
 
--- The same of an order beside a table.
-abbrev pub IsTableFault : TableView → OrderView → CheckFault → Type 0
-IsTableFault t o (Wrong command) = ⊥
-IsTableFault t o (Order fault) = IsOfOrder fault → IsExplanation t o → ⊥
-IsTableFault t o NoMemory = Unit {0}
-
 -- The reply that the fault names is wrong by itself, so no order explains the trace. Of a contradiction that isn't taken nothing is said,
 -- nor by want of memory.
 abbrev pub IsRefuteFault : TraceView → Profile → RefuteFault → Type 0
 IsRefuteFault t profile (refuting.Wrong command) = IsWrong t profile command
 IsRefuteFault t profile (refuting.Contradiction fault) = Unit {0}
 IsRefuteFault t profile refuting.NoMemory = Unit {0}
-
--- No reply is named.
-abbrev pub IsNoReply : RefuteFault → Type 0
-IsNoReply (refuting.Wrong command) = ⊥
-IsNoReply (refuting.Contradiction fault) = Unit {0}
-IsNoReply refuting.NoMemory = Unit {0}

@@ -1,26 +1,12 @@
 ghost use Rattle.std.specs.Prelude.{IfErr, OnOk};
 ghost use Rattle.nvm_judge.specs.Explained.{IsExplainedBy};
-ghost use Rattle.nvm_judge.specs.Faults.{IsCheckFault, IsTableFault};
-ghost use Rattle.nvm_standard.specs.Explanation.{IsExplanation};
+ghost use Rattle.nvm_judge.specs.Faults.{IsCheckFault};
 ghost use Rattle.nvm_standard.specs.OrderView.{seen_order};
-ghost use Rattle.nvm_standard.specs.PointView.{seen_table};
 
 use crate::check_fault::CheckFault;
-use nvm_standard::{Order, OrderFault, Points, PointsFault, Profile, explains, points_of};
+use nvm_standard::{Order, OrderFault, PointsFault, Profile, explains, points_of};
 use nvm_trace::Trace;
 use std::alloc::Global;
-
-/// Whether the order explains a trace of these points.
-fn check_among<'t>(alloc: Global, points: &Points<'t>, order: &Order<'t>) -> Result<(), CheckFault>
-    ensures explained { OnOk result (IsExplanation (seen_table points.now) (seen_order order.now)) }
-    ensures fault { IfErr result (IsTableFault (seen_table points.now) (seen_order order.now)) }
-{
-    match explains(alloc, points, order) {
-        Ok(()) => Ok(()),
-        Err(OrderFault::NoMemory) => Err(CheckFault::NoMemory),
-        Err(fault) => Err(CheckFault::Order(fault)),
-    }
-}
 
 /// Whether the order explains the trace, held to this profile. Where it doesn't, a fault of the two is named, as [`explains`] does.
 #[tactic(auto, using(crate::proofs::Wrong::is_wrong))]
@@ -34,7 +20,11 @@ pub fn check_order<'t>(
     ensures fault { IfErr result (IsCheckFault trace.entry.now profile (seen_order order.now)) }
 {
     match points_of(alloc, trace, profile) {
-        Ok(points) => check_among(alloc, &points, order),
+        Ok(points) => match explains(alloc, &points, order) {
+            Ok(()) => Ok(()),
+            Err(OrderFault::NoMemory) => Err(CheckFault::NoMemory),
+            Err(fault) => Err(CheckFault::Order(fault)),
+        },
         Err(PointsFault::Wrong { command }) => Err(CheckFault::Wrong { command }),
         Err(PointsFault::NoMemory) => Err(CheckFault::NoMemory),
     }

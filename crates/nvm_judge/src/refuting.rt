@@ -1,30 +1,13 @@
 ghost use Rattle.std.specs.Prelude.{IfErr, OnOk};
-ghost use Rattle.nvm_judge.specs.Contradicted.{AreContradicted, IsContradictedBy};
-ghost use Rattle.nvm_judge.specs.Faults.{IsNoReply, IsRefuteFault};
-ghost use Rattle.nvm_standard.specs.PointView.{seen_table};
+ghost use Rattle.nvm_judge.specs.Contradicted.{IsContradictedBy};
+ghost use Rattle.nvm_judge.specs.Faults.{IsRefuteFault};
 
 use crate::refute_fault::RefuteFault;
 use nvm_standard::{
-    Contradiction, ContradictionFault, Points, PointsFault, Profile, contradicts, points_of,
+    Contradiction, ContradictionFault, PointsFault, Profile, contradicts, points_of,
 };
 use nvm_trace::Trace;
 use std::alloc::Global;
-
-/// Whether the contradiction shows that no order explains a trace of these points.
-fn check_among(
-    alloc: Global,
-    points: &Points<'_>,
-    contradiction: &Contradiction,
-) -> Result<(), RefuteFault>
-    ensures contradicted { OnOk result (AreContradicted (seen_table points.now) contradiction.now) }
-    ensures fault { IfErr result IsNoReply }
-{
-    match contradicts(alloc, points, contradiction) {
-        Ok(()) => Ok(()),
-        Err(ContradictionFault::NoMemory) => Err(RefuteFault::NoMemory),
-        Err(fault) => Err(RefuteFault::Contradiction(fault)),
-    }
-}
 
 /// Whether the contradiction shows that no order explains the trace, held to this profile. Where it doesn't, a fault is named, as
 /// [`contradicts`] does. A reply that is wrong by itself is such a fault, too: nothing explains the trace then.
@@ -39,7 +22,11 @@ pub fn check_contradiction(
     ensures fault { IfErr result (IsRefuteFault trace.now profile) }
 {
     match points_of(alloc, trace, profile) {
-        Ok(points) => check_among(alloc, &points, contradiction),
+        Ok(points) => match contradicts(alloc, &points, contradiction) {
+            Ok(()) => Ok(()),
+            Err(ContradictionFault::NoMemory) => Err(RefuteFault::NoMemory),
+            Err(fault) => Err(RefuteFault::Contradiction(fault)),
+        },
         Err(PointsFault::Wrong { command }) => Err(RefuteFault::Wrong { command }),
         Err(PointsFault::NoMemory) => Err(RefuteFault::NoMemory),
     }

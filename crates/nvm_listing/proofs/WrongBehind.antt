@@ -5,7 +5,7 @@ use Rattle.nvm_list.specs.Words.{words}
 use Rattle.nvm_list.specs.Lists.{command_at, at_line, on_line, in_front, followed_by as read_behind, commands_from}
 use Rattle.nvm_list.specs.declared.expected.Expected.{Expected}
 use Rattle.nvm_list.specs.declared.fault.ListFault.{ListFault}
-use Rattle.nvm_listing.specs.declared.wrong_line.WrongLine.{WrongLine}
+use Rattle.nvm_listing.specs.declared.wrong_list.WrongLine.{WrongLine}
 use Rattle.nvm_listing.specs.WrongLines.{said_by, said_on, followed_by, wrong_from, BeginWith}
 
 -- What reading answers, and the wrong lines of the same.

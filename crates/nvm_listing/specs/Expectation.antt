@@ -6,8 +6,8 @@ use Rattle.std.specs.Str.{bytes_eq}
 use Rattle.nvm_record.specs.declared.status.Status.{Status}
 use Rattle.nvm_list.specs.Numbers.{number, hex_byte}
 use Rattle.nvm_list.specs.Words.{is, is_blank, first, others, words_in}
-use Rattle.nvm_listing.specs.declared.expected.Expected.{Expected}
-use Rattle.nvm_listing.specs.declared.expected.Expected.TheVariants as expecting
+use Rattle.nvm_listing.specs.declared.expectation_fault.Expected.{Expected}
+use Rattle.nvm_listing.specs.declared.expectation_fault.Expected.TheVariants as expecting
 
 -- where the first `expect` begins among pieces with a blank between each two, counted in bytes
 abbrev pub place_among : List (List ℕ) → Option ℕ

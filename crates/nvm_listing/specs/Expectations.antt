@@ -4,7 +4,7 @@ use Rattle.std.specs.List.{join_with_byte}
 use Rattle.nvm_record.specs.declared.status.Status.{Status}
 use Rattle.nvm_list.specs.Words.{text_lines, words}
 use Rattle.nvm_listing.specs.Expectation.{front, expectation}
-use Rattle.nvm_listing.specs.declared.expected.Expected.{Expected}
+use Rattle.nvm_listing.specs.declared.expectation_fault.Expected.{Expected}
 use Rattle.nvm_listing.specs.declared.expectation_fault.ExpectationFault.{ExpectationFault}
 use Rattle.nvm_listing.specs.declared.expectation_fault.ExpectationFault.TheVariants.{Line}
 

@@ -6,9 +6,9 @@ use Rattle.nvm_list.specs.Lists.{command_at}
 use Rattle.nvm_list.specs.declared.expected.Expected.{Expected}
 use Rattle.nvm_list.specs.declared.fault.ListFault.{ListFault}
 use Rattle.nvm_list.specs.declared.fault.ListFault.TheVariants.{Line, NoMemory}
-use Rattle.nvm_listing.specs.declared.said_line.SaidLine.{SaidLine}
-use Rattle.nvm_listing.specs.declared.said_line.SaidLine.TheVariants as saying
-use Rattle.nvm_listing.specs.declared.wrong_line.WrongLine.{WrongLine}
+use Rattle.nvm_listing.specs.declared.wrong_list.SaidLine.{SaidLine}
+use Rattle.nvm_listing.specs.declared.wrong_list.SaidLine.TheVariants as saying
+use Rattle.nvm_listing.specs.declared.wrong_list.WrongLine.{WrongLine}
 
 abbrev pub said_by : Result Command Expected → SaidLine
 said_by (Ok c) = saying.Command

@@ -2,8 +2,7 @@ ghost use Rattle.std.specs.Prelude.{◌≡◌, ◌⊎◌, IfErr, IfOk, Ok, Err};
 ghost use Rattle.nvm_listing.specs.Expectations as spec;
 ghost use Rattle.nvm_listing.specs.declared.expectation_fault.ExpectationFault.TheVariants.{NoMemory};
 
-use crate::expectation_fault::ExpectationFault;
-use crate::expected::Expected;
+use crate::expectation_fault::{ExpectationFault, Expected};
 use crate::list_line::expectation;
 use nvm_list::{cut, first_word, without_comment};
 use nvm_record::Status;

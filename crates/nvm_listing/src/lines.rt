@@ -30,10 +30,7 @@ pub fn list_record(alloc: Global, run: &Record) -> Result<String, NoMemory> {
 
 /// Appends the version, the namespace, and how much there is of everything.
 fn push_head(text: &mut String, run: &Record) -> Result<(), NoMemory> {
-    let version = match run.version {
-        Version::One => 1,
-        Version::Two => 2,
-    };
+    let version = version_number(run.version);
     write!(text, "record version {version}\n")?;
     push_namespace(text, run.geometry)?;
     let limit = run.limit.entries();
@@ -44,6 +41,14 @@ fn push_head(text: &mut String, run: &Record) -> Result<(), NoMemory> {
         text,
         "limit {limit} workers {workers} jobs {jobs} units {units}\n"
     )
+}
+
+/// The number of a version of records.
+pub(crate) fn version_number(version: Version) -> u8 {
+    match version {
+        Version::One => 1,
+        Version::Two => 2,
+    }
 }
 
 /// Appends the line of a namespace: `namespace`, and its six numbers by their names.

@@ -5,7 +5,7 @@ ghost use Rattle.nvm_list.specs.Rest.{bytes_left, parts_left};
 ghost use Rattle.nvm_list.specs.Words.{is_blank as parts_words};
 ghost use Rattle.nvm_listing.specs.Expectation as spec;
 
-use crate::expected::Expected;
+use crate::expectation_fault::Expected;
 use crate::status_word::status;
 use nvm_list::{first_word, is_blank, without_comment};
 use nvm_record::Status;

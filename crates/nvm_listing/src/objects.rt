@@ -2,9 +2,9 @@
 
 use crate::answer::Answer;
 use crate::item::{Item, items};
-use crate::lines::result_word;
+use crate::lines::{result_word, version_number};
 use crate::values::{DataValue, SentObjects, StatusStrings, words_of};
-use nvm_audit::{DoneJob, Record, Version};
+use nvm_audit::{DoneJob, Record};
 use nvm_list::RangesText;
 use nvm_plan::{Job, Part};
 use nvm_record::NoMemory;
@@ -63,10 +63,7 @@ pub fn list_as_objects(alloc: Global, run: &Record) -> Result<String, NoMemory> 
 
 /// Appends the object of the record's head.
 fn push_head(text: &mut String, run: &Record) -> Result<(), NoMemory> {
-    let version = match run.version {
-        Version::One => 1,
-        Version::Two => 2,
-    };
+    let version = version_number(run.version);
     let nsze = run.geometry.nsze();
     let block = run.geometry.block_size().bytes();
     let nabsn = run.geometry.nabsn();

@@ -6,11 +6,18 @@ ghost use Rattle.nvm_list.specs.declared.fault.ListFault.{ListFault};
 ghost use Rattle.nvm_list.specs.declared.fault.ListFault.TheVariants.{Line};
 ghost use Rattle.nvm_listing.specs.WrongLines as spec;
 
-use crate::said_line::SaidLine;
-use crate::wrong_line::WrongLine;
 use nvm_list::{Expected, LineFault, command_of_words, cut, first_word, without_comment};
 use nvm_record::{BlockSize, MOST_COMMANDS, NoMemory};
 use std::alloc::{AllocError, Global};
+
+/// A line of a list that is no command.
+#[derive(Clone, Copy, Debug, PartialEq, Eq)]
+pub struct WrongLine {
+    /// The number of the line, from 1.
+    pub line: u64,
+    /// What was expected in it.
+    pub expected: Expected,
+}
 
 /// All lines of a list that are no commands, in their order. There are none exactly where the list is read, and else the first is the one
 /// that [`nvm_list::read_list`] answers. A line costs what it holds. `NoMemory` is answered where a growth was refused.
@@ -41,6 +48,17 @@ fn wrong_from(alloc: Global, text: &[u8], size: BlockSize) -> Result<Vec<WrongLi
         rest = after;
     }
     Ok(wrong)
+}
+
+/// What a line of a list says.
+#[derive(Clone, Copy)]
+pub(crate) enum SaidLine {
+    /// It has no words.
+    Nothing,
+    /// It is a command.
+    Command,
+    /// It is none, since this was expected.
+    Wrong(Expected),
 }
 
 /// What a line says after `before` commands.

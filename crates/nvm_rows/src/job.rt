@@ -20,9 +20,7 @@ pub fn job(alloc: Global, words: &[&str]) -> Result<Job, RowFault> {
 
 fn only(jobs: Vec<Job>) -> Result<Job, RowFault> {
     let mut jobs = jobs;
-    let Some(job) = jobs.pop() else {
-        return Err(RowFault::Unread);
-    };
+    let job = jobs.pop().ok_or(RowFault::Unread)?;
     if jobs.is_empty() {
         Ok(job)
     } else {

@@ -42,19 +42,14 @@ fn part_text(alloc: Global, geometry: &Geometry, job: &Job, unit: u16) -> Result
 {
     match job_part_in(geometry, job, unit) {
         Some(LentPart::Act(act)) => act_text(alloc, act),
-        Some(LentPart::Look(look)) => look_text(alloc, look),
-        None => Err(RowFault::Unread),
+        Some(LentPart::Look(Look::Read { first, blocks })) => {
+            Ok(format!(in alloc; " read {first} {blocks}")?)
+        }
+        _ => Err(RowFault::Unread),
     }
 }
 
 fn act_text(alloc: Global, act: ActRef<'_>) -> Result<String, RowFault> {
     let act = act.to_act(alloc)?;
     Ok(format!(in alloc; "{}", ActText(&act))?)
-}
-
-fn look_text(alloc: Global, look: Look<'_>) -> Result<String, RowFault> {
-    match look {
-        Look::Read { first, blocks } => Ok(format!(in alloc; " read {first} {blocks}")?),
-        _ => Err(RowFault::Unread),
-    }
 }

@@ -30,14 +30,11 @@ pub fn answer(alloc: Global, call: &[&str]) -> Result<String, RowFault> {
 
 /// The bytes of a copy of the completion, and its data.
 fn posted(alloc: Global, completion: &Completion) -> Result<String, RowFault> {
-    posted_text(alloc, &completion.clone()?)
-}
-
-fn posted_text(alloc: Global, completion: &Completion) -> Result<String, RowFault> {
+    let completion = completion.clone()?;
     if completion.status.sct > 7 {
         return Err(RowFault::Unread);
     }
-    let entry = completion_bytes(completion);
+    let entry = completion_bytes(&completion);
     let data = match &completion.payload {
         Some(data) => data.as_slice(),
         None => &[],
@@ -80,11 +77,7 @@ fn block(alloc: Global, payload: Payload) -> Result<String, RowFault> {
     } else {
         Block::Bytes(payload)
     };
-    block_text(alloc, &block.clone()?)
-}
-
-fn block_text(alloc: Global, block: &Block) -> Result<String, RowFault> {
-    match block {
+    match &block.clone()? {
         Block::Bytes(payload) => Ok(format!(in alloc; "{}", RunsText(payload.as_slice()))?),
         Block::Uncorrectable => Ok(String::from_str(alloc, "marked")?),
     }

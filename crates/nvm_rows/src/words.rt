@@ -11,18 +11,12 @@ pub fn number<N: FromStr>(word: &str) -> Result<N, RowFault>
 where
     N::Err: Drop,
 {
-    match word.parse::<N>() {
-        Ok(number) => Ok(number),
-        Err(_) => Err(RowFault::Unread),
-    }
+    word.parse::<N>().ok().ok_or(RowFault::Unread)
 }
 
 /// A byte of two hexadecimal digits.
 pub fn byte(word: &str) -> Result<u8, RowFault> {
-    match u8::from_str_radix(word, 16) {
-        Ok(byte) => Ok(byte),
-        Err(_) => Err(RowFault::Unread),
-    }
+    u8::from_str_radix(word, 16).ok().ok_or(RowFault::Unread)
 }
 
 /// Bytes: runs of equal ones, as `512*41`, and bytes of two digits each, as `4e565131`, with a comma between any two. `-` has none.
@@ -88,16 +82,10 @@ fn geometry_of(numbers: &[&str]) -> Result<Geometry, RowFault> {
         number(nawun)?,
         number(nacwu)?,
     );
-    match geometry {
-        Ok(geometry) => Ok(geometry),
-        Err(_) => Err(RowFault::Unread),
-    }
+    geometry.ok().ok_or(RowFault::Unread)
 }
 
 /// The most entries of a history.
 pub fn limit(word: &str) -> Result<Limit, RowFault> {
-    match Limit::new(number(word)?) {
-        Some(limit) => Ok(limit),
-        None => Err(RowFault::Unread),
-    }
+    Limit::new(number(word)?).ok_or(RowFault::Unread)
 }

@@ -2,10 +2,8 @@
 //! exactly if their numbers are the same, and [`Numbers`] keeps what is noted of each number.
 
 mod by_place;
-mod data;
 mod hash;
 mod values;
 
 pub use by_place::{Numbers, to_u32};
-pub use data::block_at;
-pub use values::{MARK, Values, ZERO};
+pub use values::{MARK, Values, ZERO, block_at};

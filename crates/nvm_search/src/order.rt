@@ -14,8 +14,6 @@ mod ranks;
 mod search;
 mod slots;
 mod state;
-mod stop;
 mod together;
 
-pub use merging::order_of;
-pub use stop::Stop;
+pub use merging::{Stop, order_of};

@@ -1,10 +1,7 @@
 -- What is printed of an answer, and the exit status after it.
 use Rattle.std.specs.Prelude.{◌≡◌, ℕ, List, Result, Ok, Err}
-use Rattle.nvm_audit.specs.declared.audit_fault.AuditFault.{AuditFault}
-use Rattle.nvm_audit.specs.declared.verdict.Verdict.{Verdict}
 use Rattle.nvm_engine.specs.Printed.{IsPrintedOf}
-use Rattle.nvm_engine.specs.VerdictLine.{answer_line, answer_status}
-use Rattle.nvm_engine.specs.VerdictObject.{answer_object}
+use Rattle.nvm_engine.specs.VerdictLine.{answer_status}
 use Rattle.nvm_engine.specs.Witnessed.{IsWitnessed, witness_status}
 use Rattle.nvm_evidence.specs.OrderedLine.{ordered_line, ordered_status}
 use Rattle.nvm_evidence.specs.RefutedLine.{refuted_line, refuted_status}
@@ -12,20 +9,14 @@ use Rattle.nvm_evidence.specs.Witnessed.{AreOrderedFiles}
 use Rattle.nvm_trace.specs.declared.judging.Judging.{Judging}
 use Rattle.nvm_trace.specs.declared.judging.Judging.TheVariants.{Standard}
 use Rattle.nvm_trace_text.specs.WitnessLine.{witness_line}
-use Rattle.nvm_commands.specs.declared.front.judging_words.Telling.{Telling}
-use Rattle.nvm_commands.specs.declared.front.judging_words.Telling.TheVariants.{Lines, Object}
+use Rattle.nvm_commands.specs.Audited.{answer_told}
 use Rattle.nvm_commands.specs.declared.nvmu.answer.Answer.{Answer}
 use Rattle.nvm_commands.specs.declared.nvmu.answer.Answer.TheVariants.{Ran, Audited, Witnessed, Ordered, Refuted}
-
--- how an audit is printed
-abbrev pub audit_text : Telling → Result Verdict AuditFault → List ℕ
-audit_text Lines = answer_line
-audit_text Object = answer_object
 
 -- The text is that of the answer.
 abbrev pub IsTextOf : Answer → List ℕ → Type 0
 IsTextOf (Ran run) text = IsPrintedOf run text
-IsTextOf (Audited telling judged) text = text ≡ audit_text telling judged
+IsTextOf (Audited telling judged) text = text ≡ answer_told telling judged
 IsTextOf (Witnessed witnessed) text = text ≡ witness_line witnessed
 IsTextOf (Ordered ordered) text = text ≡ ordered_line ordered
 IsTextOf (Refuted refuted) text = text ≡ refuted_line refuted

@@ -1,4 +1,5 @@
 //! The kinds of arguments that commands take beside numbers.
+use crate::front::words::WordFault;
 use clap::{Arg, ArgAction, ArgMatches};
 use std::alloc::{AllocError, Global};
 
@@ -31,6 +32,14 @@ pub fn file_arguments<'a>(alloc: Global, id: &'a str, value: &'a str, help: &'a 
     file_argument(alloc, id, value, help)
         .num_args(1..)
         .action(ArgAction::Append)
+}
+
+/// The path of an argument that has to be given.
+pub fn path_named(alloc: Global, words: &ArgMatches<'_>, id: &str) -> Result<String, WordFault> {
+    match words.get_str(id) {
+        Some(path) => Ok(String::from_str(alloc, path)?),
+        None => Err(WordFault::Missing),
+    }
 }
 
 /// The path that an argument names, or `None` where it isn't given.

@@ -5,7 +5,7 @@ use crate::front::output::Output;
 use crate::front::progress::Progress;
 use nvm_audit::Record;
 use nvm_file::write_record;
-use std::alloc::Global;
+use std::alloc::{AllocError, Global};
 use std::fs::{Metadata, OpenFile};
 use std::io::{ErrorKind, Read, Write};
 use std::os::unix::fs::MetadataExt;
@@ -187,21 +187,20 @@ pub fn is_input(path: &str) -> bool
 }
 
 /// Whether a file that would be written is one that is read, under that path or another. `-` is standard input here.
-/// What isn't there, and what is no regular file, is none that is read. `NoMemory` is the only fault.
-pub fn is_read<R: Files>(rt: &R, out: &str, read: &str) -> Result<bool, FileFault> {
+/// What isn't there, and what is no regular file, is none that is read.
+pub fn is_read<R: Files>(rt: &R, out: &str, read: &str) -> Result<bool, AllocError> {
     is_one_file(rt, out, if read == STANDARD { INPUT } else { read })
 }
 
 /// Whether a file that would be written is the one that standard output goes to. What isn't there, and what is no regular
-/// file, isn't. `NoMemory` is the only fault.
-pub fn is_output<R: Files>(rt: &R, out: &str) -> Result<bool, FileFault> {
+/// file, isn't.
+pub fn is_output<R: Files>(rt: &R, out: &str) -> Result<bool, AllocError> {
     is_one_file(rt, out, "/dev/stdout")
 }
 
 /// Whether what would be written to two paths goes to one place: to one path, to one regular file, or to one name in one folder
 /// where nothing is yet. `-` is standard output here. A link that leads to nothing isn't one place with what it leads to.
-/// `NoMemory` is the only fault.
-pub fn is_one_output<R: Files>(rt: &R, out: &str, other: &str) -> Result<bool, FileFault> {
+pub fn is_one_output<R: Files>(rt: &R, out: &str, other: &str) -> Result<bool, AllocError> {
     if out == other {
         Ok(true)
     } else if out == STANDARD {
@@ -214,7 +213,7 @@ pub fn is_one_output<R: Files>(rt: &R, out: &str, other: &str) -> Result<bool, F
 }
 
 /// Whether one regular file is at both paths.
-fn is_one_file<R: Files>(rt: &R, out: &str, other: &str) -> Result<bool, FileFault> {
+fn is_one_file<R: Files>(rt: &R, out: &str, other: &str) -> Result<bool, AllocError> {
     let (Some(out), Some(other)) = (standing(rt, out)?, standing(rt, other)?) else {
         return Ok(false);
     };
@@ -222,7 +221,7 @@ fn is_one_file<R: Files>(rt: &R, out: &str, other: &str) -> Result<bool, FileFau
 }
 
 /// Whether both paths are of one name in one folder, and nothing is there.
-fn is_one_name<R: Files>(rt: &R, out: &str, other: &str) -> Result<bool, FileFault> {
+fn is_one_name<R: Files>(rt: &R, out: &str, other: &str) -> Result<bool, AllocError> {
     let out = Path::new(out);
     let other = Path::new(other);
     if out.file_name() != other.file_name() || standing(rt, out.as_str())?.is_some() {
@@ -250,10 +249,10 @@ fn is_same(one: &Metadata, other: &Metadata) -> bool {
 }
 
 /// What is at a path, or where its links lead.
-fn standing<R: Files>(rt: &R, path: &str) -> Result<Option<Metadata>, FileFault> {
+fn standing<R: Files>(rt: &R, path: &str) -> Result<Option<Metadata>, AllocError> {
     match fs::metadata(rt, path) {
         Ok(standing) => Ok(Some(standing)),
-        Err(error) if error.kind() == ErrorKind::OutOfMemory => Err(FileFault::NoMemory),
+        Err(error) if error.kind() == ErrorKind::OutOfMemory => Err(AllocError),
         Err(_) => Ok(None),
     }
 }

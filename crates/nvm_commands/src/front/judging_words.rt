@@ -1,5 +1,5 @@
 //! The words of `audit` and `witness`, which both programs have, and what other commands that judge have of them.
-use crate::front::arguments::{file_argument, flag};
+use crate::front::arguments::{file_argument, flag, path_named};
 use crate::front::words::WordFault;
 use clap::{Arg, ArgMatches, Command, Error};
 use nvm_trace::Judging;
@@ -31,12 +31,9 @@ pub struct WitnessWords {
 
 /// What the words of `audit` say.
 pub fn read_audit(alloc: Global, words: &ArgMatches<'_>) -> Result<AuditWords, WordFault> {
-    let Some(record) = words.get_str("record") else {
-        return Err(WordFault::Missing);
-    };
     Ok(AuditWords {
         telling: telling_of(words),
-        record: String::from_str(alloc, record)?,
+        record: path_named(alloc, words, "record")?,
     })
 }
 
@@ -60,13 +57,10 @@ pub fn json<'a>(alloc: Global) -> Arg<'a> {
 
 /// What the words of `witness` say.
 pub fn read_witness(alloc: Global, words: &ArgMatches<'_>) -> Result<WitnessWords, WordFault> {
-    let (Some(trace), Some(record)) = (words.get_str("trace"), words.get_str("record")) else {
-        return Err(WordFault::Missing);
-    };
     Ok(WitnessWords {
         judging: judging_of(words),
-        trace: String::from_str(alloc, trace)?,
-        record: String::from_str(alloc, record)?,
+        trace: path_named(alloc, words, "trace")?,
+        record: path_named(alloc, words, "record")?,
     })
 }
 

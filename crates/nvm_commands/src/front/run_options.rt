@@ -6,6 +6,7 @@ ghost use Rattle.nvm_commands.specs.Numbers.{IsGiven};
 use crate::front::number_options::{number_given, number_option};
 use crate::front::words::WordFault;
 use clap::{Arg, ArgMatches};
+use nvm_engine::Workers;
 use nvm_store::Limit;
 use std::alloc::Global;
 
@@ -44,11 +45,11 @@ pub fn limit_given(alloc: Global, words: &ArgMatches<'_>) -> Result<Option<Limit
 }
 
 /// The number that `--workers` has, from 1 to 64, or `None` where it isn't given.
-pub fn workers_given(alloc: Global, words: &ArgMatches<'_>) -> Result<Option<u16>, WordFault>
+pub fn workers_given(alloc: Global, words: &ArgMatches<'_>) -> Result<Option<Workers>, WordFault>
     ensures { IfOk result (IsGiven 1 64 (first_value (found_of words.now) (codes "workers"))) }
 {
     match number_given(alloc, words, "workers", 1, 64)? {
-        Some(count) => Ok(Some(count as u16)),
+        Some(count) => Ok(Workers::new(count as u16)),
         None => Ok(None),
     }
 }

@@ -65,15 +65,6 @@ pub fn words_given<R: AllocGlobal + Env>(rt: &R) -> Result<Vec<String>, WordFaul
     Ok(words)
 }
 
-/// The words as borrowed texts, which `clap` takes.
-pub fn texts_of(alloc: Global, words: &[String]) -> Result<Vec<&str>, AllocError> {
-    let mut texts = Vec::with_capacity(alloc, words.len())?;
-    for word in words {
-        texts.push(word.as_str())?;
-    }
-    Ok(texts)
-}
-
 /// The texts as strings of their own, in their order.
 pub fn owned(alloc: Global, texts: &[&str]) -> Result<Vec<String>, AllocError>
     ensures { IfOk result (λ strings. length strings.items ≡ length texts.now) }

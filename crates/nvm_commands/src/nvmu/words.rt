@@ -2,13 +2,13 @@ ghost use Rattle.std.specs.Prelude.{IfOk};
 ghost use Rattle.nvm_commands.specs.Nvmu.Words.{IsAsked};
 
 use crate::front::{
-    AuditWords, VERSION, WitnessWords, WordFault, audit_command, file_arguments, limit,
-    limit_given, nabo, nabsn, nsze, number_of_16_bits, number_of_32_bits, number_of_64_bits,
-    number_option, owned, path_option, read_audit, read_witness, witness_command, workers_given,
+    AuditWords, VERSION, WitnessWords, WordFault, audit_command, file_argument, file_arguments,
+    limit, limit_given, nabo, nabsn, nsze, number_of_16_bits, number_of_32_bits, number_of_64_bits,
+    number_option, owned, path_named, path_option, read_audit, read_witness, trace,
+    witness_command, workers_given,
 };
-use crate::nvmu::refute_words::{refute_asked, refute_command};
 use clap::{Arg, ArgMatches, Command, Error};
-use nvm_engine::{Settings, Workers};
+use nvm_engine::Settings;
 use std::alloc::Global;
 
 /// What the words of the command line ask for.
@@ -37,7 +37,7 @@ pub enum Asked {
 ///
 /// Every option of `run` is given once. `--workers` takes 1 to 64, `--limit` 1 to 4,194,304, and one host file or more is named.
 /// `audit` names one record, `witness` a trace and a record, and `refute` a trace and a contradiction.
-pub fn read_words<'a>(alloc: Global, words: &'a [&'a str]) -> Result<Asked, WordFault>
+pub fn read_words(alloc: Global, words: &[String]) -> Result<Asked, WordFault>
     ensures { IfOk result IsAsked }
 {
     let mut command = program(alloc)?;
@@ -68,13 +68,20 @@ fn run_asked(alloc: Global, run: &ArgMatches<'_>) -> Result<Asked, WordFault>
     if paths.is_empty() {
         return Err(WordFault::Missing);
     }
-    let settings = settings_of(alloc, run)?;
-    let out = String::from_str(alloc, out)?;
-    let files = owned(alloc, paths)?;
     Ok(Asked::Run {
-        settings,
-        out,
-        files,
+        settings: settings_of(alloc, run)?,
+        out: String::from_str(alloc, out)?,
+        files: owned(alloc, paths)?,
+    })
+}
+
+/// What `nvmu refute` is asked.
+fn refute_asked(alloc: Global, refute: &ArgMatches<'_>) -> Result<Asked, WordFault>
+    ensures { IfOk result IsAsked }
+{
+    Ok(Asked::Refute {
+        trace: path_named(alloc, refute, "trace")?,
+        contradiction: path_named(alloc, refute, "contradiction")?,
     })
 }
 
@@ -93,9 +100,6 @@ fn settings_of(alloc: Global, run: &ArgMatches<'_>) -> Result<Settings, WordFaul
     let (Some(workers), Some(limit)) = (workers_given(alloc, run)?, limit_given(alloc, run)?) else {
         return Err(WordFault::Missing);
     };
-    let Some(workers) = Workers::new(workers) else {
-        return Err(WordFault::Missing);
-    };
     Ok(Settings {
         nsze,
         block,
@@ -110,10 +114,6 @@ fn settings_of(alloc: Global, run: &ArgMatches<'_>) -> Result<Settings, WordFaul
 
 /// The command line of the program.
 fn program<'a>(alloc: Global) -> Result<Command<'a>, Error> {
-    let run = run_command(alloc)?;
-    let audit = audit_command(alloc)?;
-    let witness = witness_command(alloc)?;
-    let refute = refute_command(alloc)?;
     Ok(
         Command::new(alloc, "nvmu")
             .bin_name("nvmu")?
@@ -123,10 +123,10 @@ fn program<'a>(alloc: Global) -> Result<Command<'a>, Error> {
             )
             .no_binary_name(true)
             .subcommand_required(true)
-            .subcommand(run)?
-            .subcommand(audit)?
-            .subcommand(witness)?
-            .subcommand(refute)?,
+            .subcommand(run_command(alloc)?)?
+            .subcommand(audit_command(alloc)?)?
+            .subcommand(witness_command(alloc)?)?
+            .subcommand(refute_command(alloc)?)?,
     )
 }
 
@@ -165,6 +165,20 @@ fn run_command<'a>(alloc: Global) -> Result<Command<'a>, Error> {
         "The host files, host 1 first; one may be - for standard input",
     );
     Ok(command.arg(out)?.arg(files)?)
+}
+
+/// `nvmu refute`.
+fn refute_command<'a>(alloc: Global) -> Result<Command<'a>, Error> {
+    let contradiction = file_argument(
+        alloc,
+        "contradiction",
+        "CONTRADICTION",
+        "The contradiction that shows so, or - for standard input",
+    );
+    let command = Command::new(alloc, "refute").about(
+        "Says whether a contradiction shows that no device may answer as in a trace, and if not, why",
+    );
+    Ok(command.arg(trace(alloc))?.arg(contradiction)?)
 }
 
 /// An option that has to be given a number.

@@ -2,6 +2,7 @@
 
 use crate::fields::numbers::{behind, u8_at, u16_at};
 use crate::fields::walk::Walk;
+use nvm_record::NoMemory;
 
 /// The bytes of a command's submission queue entry.
 const ENTRY: usize = 64;
@@ -19,12 +20,12 @@ pub(crate) struct Sizes {
     pub(crate) has_ranges: bool,
 }
 
-/// The name of the field of a job, which is next, that has the offset. If none has, the walk goes past the job.
-pub(crate) fn find_in_job(walk: &mut Walk<'_>, sizes: Sizes) -> Option<&'static str> {
+/// Whether a field of a job, which is next, has the offset. If none has, the walk goes past the job.
+pub(crate) fn found_in_job(walk: &mut Walk<'_>, sizes: Sizes) -> Result<bool, NoMemory> {
     let job = walk.rest();
     let first = data_length(sizes, behind(job, FIRST_ENTRY));
     if u8_at(job, 2) != PAIR {
-        return walk.find(&[
+        return walk.finds(&[
             ("the host", 2),
             ("the kind", 1),
             ("the command", ENTRY),
@@ -33,7 +34,7 @@ pub(crate) fn find_in_job(walk: &mut Walk<'_>, sizes: Sizes) -> Option<&'static 
     }
     let second = FIRST_ENTRY.saturating_add(ENTRY).saturating_add(first);
     let second = data_length(sizes, behind(job, second));
-    walk.find(&[
+    walk.finds(&[
         ("the host", 2),
         ("the kind", 1),
         ("the first command", ENTRY),
@@ -43,19 +44,19 @@ pub(crate) fn find_in_job(walk: &mut Walk<'_>, sizes: Sizes) -> Option<&'static 
     ])
 }
 
-/// The name of the field of what came back of a job, which is next: its statuses, and a Read's data. The job begins with these bytes.
-pub(crate) fn find_in_answer(
+/// Whether a field of what came back of a job, which is next, has the offset: its statuses, and a Read's data. The job begins with these bytes.
+pub(crate) fn found_in_answer(
     walk: &mut Walk<'_>,
     sizes: Sizes,
     job: &[u8],
-) -> Option<&'static str> {
+) -> Result<bool, NoMemory> {
     let statuses = if u8_at(job, 2) == PAIR { 4 } else { 2 };
     let read = if u8_at(walk.rest(), statuses) == 1 {
         blocks_length(sizes, behind(job, FIRST_ENTRY))
     } else {
         0
     };
-    walk.find(&[
+    walk.finds(&[
         ("the status", statuses),
         ("the flag of the data", 1),
         ("the data", read),

@@ -7,7 +7,6 @@ use crate::shared::kept_text;
 use crate::spaces::ports::{called, history};
 use crate::words::number;
 use nvm_geometry::Geometry;
-use nvm_record::NoMemory;
 use nvm_space::{Port, Space};
 use nvm_store::{History, Limit};
 use nvm_unit::{Count, Kept};
@@ -38,10 +37,9 @@ impl<K: Kept> Model for Ground<K> {
 
 /// A Write of up to 8 blocks is one step, and a pair of up to 4.
 fn namespace() -> Result<Geometry, RowFault> {
-    match Geometry::new(32, 512, 7, 0, 7, 3) {
-        Ok(geometry) => Ok(geometry),
-        Err(_) => Err(RowFault::Unread),
-    }
+    Geometry::new(32, 512, 7, 0, 7, 3)
+        .ok()
+        .ok_or(RowFault::Unread)
 }
 
 impl Ground<History> {
@@ -108,20 +106,13 @@ impl<K: Kept> Ground<K> {
 
     /// How many entries the whole history of each unit has.
     pub fn closed(self, alloc: Global) -> Result<String, RowFault> {
-        kept_text(alloc, self.close(alloc)?.as_slice())
-    }
-
-    /// What is kept of the whole history of each unit.
-    fn close(self, alloc: Global) -> Result<Vec<K>, NoMemory> {
         let Ground {
             space,
             first,
             second,
         } = self;
-        let mut ports = Vec::with_capacity(alloc, 2)?;
-        ports.push(first)?;
-        ports.push(second)?;
-        space.close(alloc, ports)
+        let kept = space.close(alloc, vec![in alloc; first, second]?)?;
+        kept_text(alloc, &kept)
     }
 }
 

@@ -64,25 +64,10 @@ fn done<K: Kept>(
         return Err(RowFault::Unread);
     }
     match call {
-        "run" => ran(rt, alloc, space, port, &job),
+        "run" => done_text(alloc, &space.run_job(rt, alloc, port, NUMBER, &job, &Open)),
         "poll" => polled(alloc, space, port, &job),
         _ => Err(RowFault::Unread),
     }
-}
-
-fn ran<K: Kept>(
-    rt: &impl Wait,
-    alloc: Global,
-    space: &Space<K>,
-    port: &mut Port<K>,
-    job: &Job,
-) -> Result<String, RowFault>
-    requires of { IsPortOf space.now port.old }
-    requires fits { FitsNamespace space.now.namespace job.now }
-    ensures of { IsPortOf space.now port.new }
-    ensures number { port.new.number ≡ port.old.number }
-{
-    done_text(alloc, &space.run_job(rt, alloc, port, NUMBER, job, &Open))
 }
 
 fn polled<K: Kept>(

@@ -6,7 +6,7 @@ ghost use Rattle.nvm_unit.specs.Passes.{IsPassOf};
 use crate::fault::RowFault;
 use crate::shared::kept_text;
 use crate::units::passes::{Counting, called, history};
-use nvm_record::{BlockSize, NoMemory};
+use nvm_record::BlockSize;
 use nvm_store::{History, Limit, Place};
 use nvm_unit::{Count, Kept, Pass, Unit};
 use std::alloc::Global;
@@ -115,13 +115,6 @@ impl<K: Kept> Ground<K> {
 
     /// How many entries the whole history has.
     pub fn closed(self, alloc: Global) -> Result<String, RowFault> {
-        let mut kept = Vec::with_capacity(alloc, 1)?;
-        kept.push(self.close(alloc)?)?;
-        kept_text(alloc, kept.as_slice())
-    }
-
-    /// What is kept of the whole history.
-    fn close(self, alloc: Global) -> Result<K, NoMemory> {
         let Ground {
             unit,
             first,
@@ -129,10 +122,9 @@ impl<K: Kept> Ground<K> {
             versions: _,
             gate: _,
         } = self;
-        let mut passes = Vec::with_capacity(alloc, 2)?;
-        passes.push(first)?;
-        passes.push(second)?;
-        Ok(unit.close(passes))
+        let mut kept = Vec::with_capacity(alloc, 1)?;
+        kept.push(unit.close(vec![in alloc; first, second]?))?;
+        kept_text(alloc, kept.as_slice())
     }
 }
 

@@ -17,6 +17,11 @@ pub struct Numbers {
 }
 
 impl Numbers {
+    /// Those numbers.
+    pub fn of(items: Vec<u32>) -> Numbers {
+        Numbers { items }
+    }
+
     /// `count` numbers, each this one.
     pub fn new(alloc: Global, count: usize, number: u32) -> Result<Numbers, NoMemory> {
         let items = vec![in alloc; number; count]?;

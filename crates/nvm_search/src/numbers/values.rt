@@ -1,5 +1,4 @@
 use crate::numbers::by_place::{Numbers, to_u32};
-use crate::numbers::data::block_at;
 use crate::numbers::hash::hash_of;
 use nvm_record::{BlockSize, NoMemory};
 use std::alloc::Global;
@@ -19,13 +18,20 @@ const FEW: usize = 16;
 /// The bytes of a block that no command is expected to put.
 const FRESH: &[u8] = &[0xa5; 4096];
 
+/// The block at this place of the data, as far as there is any.
+pub fn block_at(bytes: &[u8], size: BlockSize, place: usize) -> &[u8] {
+    let size = size.bytes() as usize;
+    let from = place.saturating_mul(size).min(bytes.len());
+    let to = from.saturating_add(size).min(bytes.len());
+    &bytes[from..to]
+}
+
 /// Numbers for what blocks hold: two blocks have the same value exactly if they hold the same.
 #[derive(Drop)]
 pub struct Values<'t> {
     alloc: Global,
     /// The bytes of each value, from the first one of other bytes on, and their hashes.
-    contents: Vec<&'t [u8]>,
-    hashes: Vec<u64>,
+    contents: Vec<(&'t [u8], u64)>,
     /// Each value is at the place that its hash leads to, or at the next one that was free. A power of 2 of places, or none.
     table: Numbers,
 }
@@ -36,7 +42,6 @@ impl<'t> Values<'t> {
         Ok(Values {
             alloc,
             contents: Vec::new(alloc),
-            hashes: Vec::new(alloc),
             table: Numbers::new(alloc, 0, EMPTY)?,
         })
     }
@@ -50,8 +55,7 @@ impl<'t> Values<'t> {
             return Ok(value);
         }
         let value = to_u32(self.contents.len().saturating_add(FIRST));
-        self.contents.push(bytes)?;
-        self.hashes.push(hash)?;
+        self.contents.push((bytes, hash))?;
         if self.contents.len() > self.table.len() / 2 {
             self.lay_out()?;
         } else {
@@ -68,7 +72,7 @@ impl<'t> Values<'t> {
     /// The bytes of a value that isn't of zero bytes or a mark.
     pub fn bytes_of(&self, value: u32) -> Option<&'t [u8]> {
         let place = (value as usize).checked_sub(FIRST)?;
-        let bytes = self.contents.get(place)?;
+        let (bytes, _) = self.contents.get(place)?;
         Some(*bytes)
     }
 
@@ -94,10 +98,9 @@ impl<'t> Values<'t> {
 
     /// Whether the value is that of the bytes of this hash.
     fn has(&self, value: u32, hash: u64, bytes: &[u8]) -> bool {
-        let place = (value as usize).saturating_sub(FIRST);
-        match (self.hashes.get(place), self.contents.get(place)) {
-            (Some(known), Some(content)) => *known == hash && *content == bytes,
-            _ => false,
+        match self.contents.get((value as usize).saturating_sub(FIRST)) {
+            Some((content, known)) => *known == hash && *content == bytes,
+            None => false,
         }
     }
 
@@ -116,8 +119,8 @@ impl<'t> Values<'t> {
     fn lay_out(&mut self) -> Result<(), NoMemory> {
         let places = self.table.len().saturating_mul(2).max(FEW);
         self.table = Numbers::new(self.alloc, places, EMPTY)?;
-        for place in 0..self.hashes.len() {
-            if let Some(hash) = self.hashes.get(place) {
+        for place in 0..self.contents.len() {
+            if let Some((_, hash)) = self.contents.get(place) {
                 let hash = *hash;
                 self.enter(to_u32(place.saturating_add(FIRST)), hash);
             }

@@ -1,9 +1,9 @@
 //! What comes before what in each order of a part's acts.
 use crate::numbers::{Numbers, ZERO, to_u32};
 use crate::order::acts::{Act, Gives, NONE, Wants};
-use crate::order::lists::{Entry, Lists};
+use crate::order::lists::Lists;
 use crate::order::making::Part;
-use crate::order::precedence::Precedence;
+use crate::order::precedence::{Precedence, take_node};
 use crate::order::search::{Move, Search};
 use crate::order::state::State;
 use nvm_record::NoMemory;
@@ -12,7 +12,7 @@ use std::alloc::Global;
 /// How often sources are looked for at most.
 const ROUNDS: u32 = 16;
 /// How many that may have put something are looked at for one that found it.
-const MOST_GIVERS: u32 = 64;
+const MOST_GIVERS: u32 = 65;
 /// How many others may begin while one goes on: of one that goes on longer nothing is asked.
 const MOST_BESIDE: usize = 2048;
 /// How many words of nodes after those beside an act are looked at once it is done.
@@ -56,8 +56,7 @@ fn ends_of(alloc: Global, part: &Part) -> Result<Numbers, NoMemory> {
         let start = lists.givers.start(slot);
         let block = part.slots.block(slot);
         let is_one = start.saturating_add(1) == lists.givers.end(slot);
-        let is_any = lists.anything.start(block) < lists.anything.end(block);
-        if !is_one || is_any || part.slots.value(slot) == ZERO {
+        if !is_one || !lists.anything.is_empty(block) || part.slots.value(slot) == ZERO {
             continue;
         }
         let giver = lists.givers.act(start);
@@ -83,32 +82,28 @@ fn nodes_of(
     alloc: Global,
     part: &Part,
     ends: &Numbers,
-) -> Result<(Vec<Entry>, Vec<(u32, u32)>), NoMemory> {
-    let mut entries = Vec::new(alloc);
+) -> Result<(Vec<u32>, Vec<(u32, u32)>), NoMemory> {
+    let mut begun = Vec::new(alloc);
     for number in 0..part.count() {
         if ends.at(number) != 0 {
-            entries.push(Entry {
-                group: 0,
-                time: part.act(number).from,
-                act: number,
-            })?;
+            begun.push((part.act(number).from, number))?;
         }
     }
-    entries.sort()?;
-    let mut kept = Vec::with_capacity(alloc, entries.len())?;
-    let mut times = Vec::with_capacity(alloc, entries.len())?;
-    for place in 0..entries.len() {
-        let entry = entries[place];
-        let end = ends.at(entry.act).saturating_sub(1);
-        let beside = entries
-            .partition_point(|other| other.time <= end)
+    begun.sort()?;
+    let mut acts = Vec::with_capacity(alloc, begun.len())?;
+    let mut times = Vec::with_capacity(alloc, begun.len())?;
+    for place in 0..begun.len() {
+        let (from, act) = begun[place];
+        let end = ends.at(act).saturating_sub(1);
+        let beside = begun
+            .partition_point(|other| other.0 <= end)
             .saturating_sub(place);
         if beside <= MOST_BESIDE {
-            kept.push(entry)?;
-            times.push((entry.time, end))?;
+            acts.push(act)?;
+            times.push((from, end))?;
         }
     }
-    Ok((kept, times))
+    Ok((acts, times))
 }
 
 /// For each place in the list of those who give slots the latest end among its group up to there.
@@ -129,25 +124,22 @@ impl Derivation {
     /// What follows for the part. None where it has too many acts.
     pub fn new(alloc: Global, part: &Part) -> Result<Option<Derivation>, NoMemory> {
         let ends = ends_of(alloc, part)?;
-        let (entries, times) = nodes_of(alloc, part, &ends)?;
+        let (acts, times) = nodes_of(alloc, part, &ends)?;
         let Some(order) = Precedence::new(alloc, &times)? else {
             return Ok(None);
         };
         let cells = part.cells.len();
         let mut made = Derivation {
             nodes: Numbers::new(alloc, part.acts.len(), 0)?,
-            acts: Numbers::new(alloc, entries.len(), 0)?,
+            acts: Numbers::of(acts),
             owners: Numbers::new(alloc, cells, 0)?,
             order,
             links: State::new(alloc, cells.saturating_mul(3))?,
             reach: reach_of(alloc, part)?,
-            open: Lists::new(alloc, Vec::new(alloc), 0, 0)?,
+            open: Lists::new(alloc),
         };
-        let mut node = 0u32;
-        for entry in &entries {
-            made.acts.put(node, entry.act);
-            node = node.saturating_add(1);
-            made.nodes.put(entry.act, node);
+        for node in 0..made.order.count() {
+            made.nodes.put(made.acts.at(node), node.saturating_add(1));
         }
         for number in 0..part.count() {
             let act = part.act(number);
@@ -164,22 +156,16 @@ impl Derivation {
 
     /// Notes of which cells it isn't known who put what they find.
     fn note_open(&mut self, alloc: Global, part: &Part) -> Result<(), NoMemory> {
-        let mut open = Vec::new(alloc);
         for node in 0..self.order.count() {
             let act = part.act(self.acts.at(node));
             for at in act.cell..act.cells_end() {
                 let cell = part.cell(at);
                 if self.source(at) == 0 && matches!(&cell.wants, Wants::Slot(_)) {
-                    open.push(Entry {
-                        group: cell.block,
-                        time: act.from,
-                        act: at,
-                    })?;
+                    self.open.add(cell.block, act.from, at)?;
                 }
             }
         }
-        self.open = Lists::new(alloc, open, part.blocks, 0)?;
-        Ok(())
+        self.open.sort(alloc, part.blocks, &mut 0)
     }
 
     /// The node that surely put what the cell finds, counted from 1.
@@ -209,13 +195,8 @@ impl Derivation {
     }
 
     /// The act's node, where it has one.
-    pub fn node(&self, act: u32) -> Option<u32> {
+    fn node(&self, act: u32) -> Option<u32> {
         self.nodes.at(act).checked_sub(1)
-    }
-
-    /// The act of a node.
-    pub fn act(&self, node: u32) -> u32 {
-        self.acts.at(node)
     }
 
     /// Draws all consequences.
@@ -230,7 +211,7 @@ impl Derivation {
         }
         self.follow(part)?;
         for _ in 0..ROUNDS {
-            if self.order.is_absurd() || !self.find_sources(part)? {
+            if self.order.is_absurd || !self.find_sources(part)? {
                 break;
             }
             self.follow(part)?;
@@ -262,13 +243,9 @@ impl Derivation {
     fn newest_before(&self, part: &Part, node: u32, slot: u32) -> u32 {
         let list = &part.lists.writers;
         let block = part.slots.block(slot);
-        let start = list.start(block);
-        let until = self.order.end(node);
-        let end = list.first_from(block, until.saturating_add(1));
-        let first = self.order.first_word(node).saturating_mul(32);
-        let mut newest = 0;
-        for back in 0..end.saturating_sub(start) {
-            let at = end.saturating_sub(back).saturating_sub(1);
+        let end = list.first_from(block, self.order.end(node).saturating_add(1));
+        let first = self.order.first_beside(node);
+        for at in (list.start(block)..end).rev() {
             let Some(writer) = self.node(list.act(at)) else {
                 continue;
             };
@@ -276,14 +253,13 @@ impl Derivation {
                 continue;
             }
             if self.order.is_before(writer, node) {
-                newest = list.time(at).saturating_add(1).max(newest);
-                break;
+                return list.time(at).saturating_add(1);
             }
             if writer < first {
                 break;
             }
         }
-        newest
+        0
     }
 
     /// What the act's cell of the block surely puts there, or none.
@@ -339,14 +315,12 @@ impl Derivation {
                 return 0;
             }
         }
-        let start = lists.givers.start(slot);
         let end = lists.givers.first_from(slot, until.saturating_add(1));
-        for back in 0..end.saturating_sub(start) {
-            let at = end.saturating_sub(back).saturating_sub(1);
+        for at in (lists.givers.start(slot)..end).rev() {
             if self.reach.at(at).saturating_add(1) < newest {
                 break;
             }
-            if back > MOST_GIVERS {
+            if end.saturating_sub(at) > MOST_GIVERS {
                 return 0;
             }
             let giver = lists.givers.act(at);
@@ -369,7 +343,7 @@ impl Derivation {
             source = giver_node;
         }
         if count == 0 {
-            self.order.set_absurd();
+            self.order.is_absurd = true;
         }
         source
     }
@@ -391,15 +365,10 @@ impl Derivation {
             return false;
         };
         let list = &part.lists.writers;
-        let until = self.order.end(node);
-        let end = list.first_from(block, until.saturating_add(1));
-        let first = self
-            .order
-            .first_word(node)
-            .min(self.order.first_word(giver))
-            .saturating_mul(32);
-        for back in 0..end.saturating_sub(list.start(block)) {
-            let at = end.saturating_sub(back).saturating_sub(1);
+        let end = list.first_from(block, self.order.end(node).saturating_add(1));
+        let beside = self.order.first_beside(node);
+        let first = beside.min(self.order.first_beside(giver));
+        for at in (list.start(block)..end).rev() {
             let Some(writer) = self.node(list.act(at)) else {
                 continue;
             };
@@ -437,7 +406,7 @@ impl Derivation {
         } else {
             source.checked_sub(1)
         };
-        let mut first = self.order.first_word(node);
+        let mut first = self.order.first_beside(node);
         if let Some(giver) = giver {
             let act = part.act(self.acts.at(giver));
             let at = self.cell_at(part, &act, found.block);
@@ -447,16 +416,9 @@ impl Derivation {
             let place = self.other_place(cell);
             self.links.set(place, other)?;
             self.order.add(giver, node)?;
-            first = first.min(self.order.first_word(giver));
+            first = first.min(self.order.first_beside(giver));
         }
-        self.part_writers(
-            part,
-            node,
-            giver,
-            found.block,
-            slot,
-            first.saturating_mul(32),
-        )
+        self.part_writers(part, node, giver, found.block, slot, first)
     }
 
     /// Of each that puts something else in the block, where it is known to be on one side of the finder or of the giver, notes on which
@@ -471,10 +433,8 @@ impl Derivation {
         first: u32,
     ) -> Result<(), NoMemory> {
         let list = &part.lists.writers;
-        let until = self.order.end(node);
-        let end = list.first_from(block, until.saturating_add(1));
-        for back in 0..end.saturating_sub(list.start(block)) {
-            let at = end.saturating_sub(back).saturating_sub(1);
+        let end = list.first_from(block, self.order.end(node).saturating_add(1));
+        for at in (list.start(block)..end).rev() {
             let Some(writer) = self.node(list.act(at)) else {
                 continue;
             };
@@ -505,7 +465,7 @@ impl Derivation {
     /// Draws the consequences of all that was found.
     pub fn follow(&mut self, part: &Part) -> Result<(), NoMemory> {
         for _ in 0..u64::MAX {
-            if self.order.is_absurd() {
+            if self.order.is_absurd {
                 break;
             }
             let Some((one, other)) = self.order.next_found() else {
@@ -527,8 +487,8 @@ impl Derivation {
             .saturating_add(early.cells)
             .min(late_first.saturating_add(late.cells));
         for block in first..end {
-            let early_cell = early.cell.saturating_add(block.saturating_sub(early_first));
-            let late_cell = late.cell.saturating_add(block.saturating_sub(late_first));
+            let early_cell = self.cell_at(part, &early, block);
+            let late_cell = self.cell_at(part, &late, block);
             self.follow_block(part, one, other, early_cell, late_cell)?;
         }
         if first >= end {
@@ -575,7 +535,7 @@ impl Derivation {
         if let Wants::Slot(slot) = part.cell(late).wants {
             if slot != put && source != 0 {
                 if source == START {
-                    self.order.set_absurd();
+                    self.order.is_absurd = true;
                 } else if source != one.saturating_add(1) {
                     self.order.add(one, source.saturating_sub(1))?;
                 }
@@ -653,7 +613,7 @@ impl Derivation {
     /// Draws the consequences of a node's being before all that aren't done, for those that put something in its blocks.
     fn follow_done(&mut self, part: &Part, node: u32, done: &Act) -> Result<(), NoMemory> {
         let list = &part.lists.writers;
-        let first = self.acts.at(self.order.first_word(node).saturating_mul(32));
+        let first = self.acts.at(self.order.first_beside(node));
         for at in done.cell..done.cells_end() {
             let block = part.cell(at).block;
             let finders = self.finder_place(at);
@@ -690,7 +650,7 @@ impl Derivation {
         node: u32,
         block: u32,
     ) -> Result<(), NoMemory> {
-        let first = self.acts.at(self.order.first_word(node).saturating_mul(32));
+        let first = self.acts.at(self.order.first_beside(node));
         let last = self
             .order
             .last_word(node)
@@ -700,7 +660,7 @@ impl Derivation {
         let until = part.act(last).from;
         let start = self.open.first_from(block, part.act(first).from);
         for at in start..self.open.end(block) {
-            if self.order.is_absurd() || self.open.time(at) > until {
+            if self.order.is_absurd || self.open.time(at) > until {
                 break;
             }
             let cell = self.open.act(at);
@@ -735,13 +695,9 @@ impl Derivation {
         for word in self.order.first_open(node)..self.order.last_word(node).saturating_add(1) {
             let mut left = self.order.missing(node, word);
             for _ in 0..32 {
-                if left == 0 {
+                let Some(other) = take_node(word, &mut left) else {
                     break;
-                }
-                let other = word
-                    .saturating_mul(32)
-                    .saturating_add(left.trailing_zeros());
-                left &= left.wrapping_sub(1);
+                };
                 let act = self.acts.at(other);
                 let slot = self.slot_of(part, act);
                 all.push(Move { act, slot })?;

@@ -1,11 +1,10 @@
-use crate::numbers::{MARK, Numbers, Values, ZERO, block_at, to_u32};
+use crate::numbers::{MARK, Numbers, Values, block_at, to_u32};
 use crate::order::acts::{Gives, NONE};
 use crate::order::derivation::Derivation;
 use crate::order::making::{Known, Part, part_of};
 use crate::order::parts::{Share, shares_of};
 use crate::order::ranks::Ranks;
 use crate::order::search::{Search, Step};
-use crate::order::stop::Stop;
 use crate::order::together::done_together;
 use nvm_record::NoMemory;
 use nvm_standard::{Content, FirstContent, Order, Placed, Point, Points, Presence, Value};
@@ -23,6 +22,15 @@ const TRIES: u64 = 32;
 /// How many acts may be looked at for each of the effort.
 const EACH: u64 = 100;
 
+/// Why a search that found no order ended.
+#[derive(Clone, Copy, Debug, PartialEq, Eq)]
+pub enum Stop {
+    /// It went on for as long as it might: a longer one may find an order.
+    Effort,
+    /// No order explains the points.
+    Everything,
+}
+
 /// A step of a part, by the latest time at which it or one before it in the part began. Merged by these times the parts' orders keep
 /// all times.
 #[derive(Clone, Copy, Debug, PartialEq, Eq, PartialOrd, Ord)]
@@ -39,9 +47,6 @@ struct Merged {
 
 /// What a value stands for.
 fn content_of<'t>(values: &Values<'t>, ones: u32, value: u32) -> Content<'t> {
-    if value == ZERO {
-        return Content::Zeroes;
-    }
     if value == MARK {
         return Content::Mark;
     }
@@ -113,23 +118,6 @@ fn place_all<'t>(
     Ok(placed)
 }
 
-/// The shares of each part, from one place up to another.
-fn ranges_of(alloc: Global, shares: &Vec<Share>) -> Result<Vec<(usize, usize)>, NoMemory> {
-    let mut ranges = Vec::new(alloc);
-    let mut start = 0usize;
-    for place in 1..shares.len().saturating_add(1) {
-        let is_end = match (shares.get(place), shares.get(start)) {
-            (Some(share), Some(first)) => share.part != first.part,
-            _ => true,
-        };
-        if is_end {
-            ranges.push((start, place))?;
-            start = place;
-        }
-    }
-    Ok(ranges)
-}
-
 /// What was found for a part.
 #[derive(Drop)]
 struct Found<'t> {
@@ -180,7 +168,7 @@ fn search_by_precedence<'p>(
 ) -> Result<Option<(Search<'p>, bool)>, NoMemory> {
     let order = Derivation::new(known.alloc, part)?;
     if let Some(order) = &order {
-        if order.order.is_absurd() && !part.is_chosen {
+        if order.order.is_absurd && !part.is_chosen {
             return Ok(None);
         }
     }
@@ -216,32 +204,26 @@ fn searched<'p>(
     if is_found {
         return Ok(Ok(search));
     }
-    let mut tries = 0u32;
     let mut stuck = search.stuck_at();
     let has_all = part.lists.anything.count() == 0;
-    for guided in [false, true, false] {
-        if guided {
-            let Some((search, is_found)) = search_by_precedence(known, part, is_last)? else {
-                return Ok(Err(Miss::Nothing));
-            };
-            if is_found {
-                return Ok(Ok(search));
-            }
-            stuck = search.stuck_at();
+    for turn in 0..3u32 {
+        let tried = if turn == 1 {
+            search_by_precedence(known, part, is_last)?
         } else if has_all {
-            let most = if tries == 0 {
-                most_of(known, false)
-            } else {
-                most_of(known, is_last)
-            };
-            let Some((search, is_found)) = search_through(known, part, most)? else {
-                return Ok(Err(Miss::Nothing));
-            };
-            if is_found {
-                return Ok(Ok(search));
-            }
+            let most = most_of(known, is_last && turn == 2);
+            search_through(known, part, most)?
+        } else {
+            continue;
+        };
+        let Some((search, is_found)) = tried else {
+            return Ok(Err(Miss::Nothing));
+        };
+        if is_found {
+            return Ok(Ok(search));
         }
-        tries = tries.saturating_add(1);
+        if turn == 1 {
+            stuck = search.stuck_at();
+        }
     }
     known.left = known.left.saturating_sub(u64::from(part.count()));
     Ok(Err(Miss::Stuck(stuck)))
@@ -298,25 +280,16 @@ fn found_for<'t>(
 }
 
 /// The shares of a part.
-fn shares_in<'s>(
-    shares: &'s Vec<Share>,
-    ranges: &Vec<(usize, usize)>,
-    part: usize,
-) -> Option<&'s [Share]> {
-    let (start, end) = ranges.get(part)?;
-    shares.get(*start..*end)
+fn shares_in(shares: &Vec<Share>, part: u32) -> Option<&[Share]> {
+    let start = shares.partition_point(|share| share.part < part);
+    let end = shares.partition_point(|share| share.part <= part);
+    shares.get(start..end)
 }
 
 /// The last part before this one that has blocks of a point.
-fn part_before(
-    shares: &Vec<Share>,
-    ranges: &Vec<(usize, usize)>,
-    part: usize,
-    point: u32,
-) -> Option<usize> {
-    for back in 0..part {
-        let number = part.saturating_sub(back).saturating_sub(1);
-        let of_part = shares_in(shares, ranges, number)?;
+fn part_before(shares: &Vec<Share>, part: u32, point: u32) -> Option<u32> {
+    for number in (0..part).rev() {
+        let of_part = shares_in(shares, number)?;
         let at = of_part.partition_point(|share| share.point < point);
         if let Some(share) = of_part.get(at) {
             if share.point == point {
@@ -332,6 +305,7 @@ fn known_of<'a, 't>(
     alloc: Global,
     points: &'a Points<'t>,
     values: &mut Values<'t>,
+    left: u64,
 ) -> Result<Known<'a, 't>, NoMemory> {
     let count = points.points.len();
     Ok(Known {
@@ -345,89 +319,67 @@ fn known_of<'a, 't>(
         met: Numbers::new(alloc, count, 0)?,
         ones: values.value_of(block_at(ONES, points.block_size, 0))?,
         fresh: values.fresh(points.block_size)?,
-        left: 0,
+        left,
     })
 }
 
-/// Numbers the parts in their order, and notes which of them each point has.
-fn number_parts(shares: &mut Vec<Share>, known: &mut Known<'_, '_>) {
-    let mut number = 0u32;
-    let mut last = None;
+/// Numbers the parts in their order, and notes which of them each point has. Gives how many there are.
+fn number_parts(shares: &mut Vec<Share>, known: &mut Known<'_, '_>) -> u32 {
+    let mut count = 0u32;
+    let mut last = NONE;
     for share in shares.iter_mut() {
-        if let Some(part) = last {
-            if part != share.part {
-                number = number.saturating_add(1);
-            }
+        if share.part != last {
+            last = share.part;
+            count = count.saturating_add(1);
         }
-        last = Some(share.part);
+        let number = count.saturating_sub(1);
         share.part = number;
         let first = known.first_part.at(share.point).min(number);
         known.first_part.put(share.point, first);
         known.last_part.put(share.point, number);
         known.holder.put(share.point, number);
     }
+    count
 }
 
 /// Where the search of a part got stuck at a point of which one block has to be done there: another part that has to have it instead.
 fn other_holder(
     known: &mut Known<'_, '_>,
     shares: &Vec<Share>,
-    ranges: &Vec<(usize, usize)>,
-    part: usize,
+    part: u32,
     point: u32,
-) -> Option<usize> {
+) -> Option<u32> {
     let choice = known.points.points.get(point as usize)?;
-    if choice.presence != Presence::OneOf || known.holder.at(point) != to_u32(part) {
+    if choice.presence != Presence::OneOf || known.holder.at(point) != part {
         return None;
     }
-    let other = part_before(shares, ranges, part, point)?;
+    let other = part_before(shares, part, point)?;
     known.met.put(point, 1);
-    known.holder.put(point, to_u32(other));
+    known.holder.put(point, other);
     Some(other)
-}
-
-/// Where the search of a part got stuck: other parts that have to have points instead of which one block has to be done.
-fn holders_instead(
-    known: &mut Known<'_, '_>,
-    shares: &Vec<Share>,
-    ranges: &Vec<(usize, usize)>,
-    part: usize,
-    point: u32,
-) -> Result<Vec<usize>, NoMemory> {
-    if let Some(other) = other_holder(known, shares, ranges, part, point) {
-        let mut others = Vec::new(known.alloc);
-        others.push(other)?;
-        return Ok(others);
-    }
-    other_holders(known, shares, ranges, part, point)
 }
 
 /// Whether the two may be done at the same time.
 fn is_beside(one: &Point<'_>, other: &Point<'_>) -> bool {
-    let one_is_over = match one.until {
-        Some(until) => until < other.from,
-        None => false,
-    };
-    let other_is_over = match other.until {
-        Some(until) => until < one.from,
-        None => false,
-    };
-    !one_is_over && !other_is_over
+    one.until.unwrap_or(u64::MAX) >= other.from && other.until.unwrap_or(u64::MAX) >= one.from
 }
 
-/// Where the search of a part got stuck at another point: other parts that have to have instead those beside it of which one block has to
-/// be done.
-fn other_holders(
+/// Where the search of a part got stuck at a point: another part that has to have that instead, or else other parts that have to have those
+/// beside it of which one block has to be done.
+fn holders_instead(
     known: &mut Known<'_, '_>,
     shares: &Vec<Share>,
-    ranges: &Vec<(usize, usize)>,
-    part: usize,
+    part: u32,
     point: u32,
-) -> Result<Vec<usize>, NoMemory> {
+) -> Result<Vec<u32>, NoMemory> {
     let mut others = Vec::new(known.alloc);
+    if let Some(other) = other_holder(known, shares, part, point) {
+        others.push(other)?;
+        return Ok(others);
+    }
     let (Some(stuck), Some(of_part)) = (
         known.points.points.get(point as usize),
-        shares_in(shares, ranges, part),
+        shares_in(shares, part),
     ) else {
         return Ok(others);
     };
@@ -436,7 +388,7 @@ fn other_holders(
             break;
         };
         if is_beside(stuck, choice) {
-            if let Some(other) = other_holder(known, shares, ranges, part, share.point) {
+            if let Some(other) = other_holder(known, shares, part, share.point) {
                 others.push(other)?;
             }
         }
@@ -449,31 +401,30 @@ fn search_all<'t>(
     known: &mut Known<'_, 't>,
     values: &mut Values<'t>,
     shares: &Vec<Share>,
-    ranges: &Vec<(usize, usize)>,
+    parts: u32,
 ) -> Result<Result<Vec<Found<'t>>, Stop>, NoMemory> {
     let alloc = known.alloc;
-    let mut waiting = Vec::with_capacity(alloc, ranges.len())?;
-    let mut all = Vec::with_capacity(alloc, ranges.len())?;
-    for back in 0..ranges.len() {
-        waiting.push(ranges.len().saturating_sub(back).saturating_sub(1))?;
+    let mut waiting = Vec::with_capacity(alloc, parts as usize)?;
+    let mut all = Vec::with_capacity(alloc, parts as usize)?;
+    for part in (0..parts).rev() {
+        waiting.push(part)?;
         all.push(Found {
             steps: Vec::new(alloc),
             first: Vec::new(alloc),
         })?;
     }
-    let mut tried = Numbers::new(alloc, ranges.len(), 0)?;
+    let mut tried = Numbers::new(alloc, parts as usize, 0)?;
     for _ in 0..u64::MAX {
         let Some(part) = waiting.pop() else {
             break;
         };
-        let Some(of_part) = shares_in(shares, ranges, part) else {
+        let Some(of_part) = shares_in(shares, part) else {
             break;
         };
-        let number = to_u32(part);
-        let is_last = tried.at(number) == 1;
-        match found_for(known, values, number, of_part, is_last)? {
+        let is_last = tried.at(part) == 1;
+        match found_for(known, values, part, of_part, is_last)? {
             Ok(found) => {
-                if let Some(place) = all.get_mut(part) {
+                if let Some(place) = all.get_mut(part as usize) {
                     *place = found;
                 }
             }
@@ -482,12 +433,12 @@ fn search_all<'t>(
                 if known.left == 0 {
                     return Ok(Err(Stop::Effort));
                 }
-                let others = holders_instead(known, shares, ranges, part, point)?;
+                let others = holders_instead(known, shares, part, point)?;
                 if others.is_empty() {
                     if is_last {
                         return Ok(Err(Stop::Effort));
                     }
-                    tried.put(number, 1);
+                    tried.put(part, 1);
                 }
                 waiting.push(part)?;
                 waiting.extend_from_slice(&others)?;
@@ -505,12 +456,11 @@ pub fn order_of<'t>(
     effort: u32,
 ) -> Result<Result<Order<'t>, Stop>, NoMemory> {
     let mut shares = shares_of(alloc, &points.points, points.nsze)?;
-    let ranges = ranges_of(alloc, &shares)?;
     let mut values = Values::new(alloc)?;
-    let mut known = known_of(alloc, points, &mut values)?;
-    known.left = u64::from(effort).saturating_mul(EACH);
-    number_parts(&mut shares, &mut known);
-    let all = match search_all(&mut known, &mut values, &shares, &ranges)? {
+    let left = u64::from(effort).saturating_mul(EACH);
+    let mut known = known_of(alloc, points, &mut values, left)?;
+    let parts = number_parts(&mut shares, &mut known);
+    let all = match search_all(&mut known, &mut values, &shares, parts)? {
         Ok(all) => all,
         Err(stop) => return Ok(Err(stop)),
     };

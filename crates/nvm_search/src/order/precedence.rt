@@ -24,12 +24,24 @@ pub struct Precedence {
     /// Pairs that were found and whose consequences weren't drawn yet.
     found: Vec<(u32, u32)>,
     /// Whether something would have to come before itself.
-    is_absurd: bool,
+    pub is_absurd: bool,
 }
 
 /// The bit of a node in its word.
 fn bit(node: u32) -> u32 {
     1u32 << (node % 32)
+}
+
+/// Takes the first node of those of a word that are left.
+pub fn take_node(word: u32, left: &mut u32) -> Option<u32> {
+    if *left == 0 {
+        return None;
+    }
+    let node = word
+        .saturating_mul(32)
+        .saturating_add(left.trailing_zeros());
+    *left &= left.wrapping_sub(1);
+    Some(node)
 }
 
 impl Precedence {
@@ -53,18 +65,15 @@ impl Precedence {
                 break;
             };
             let (from, until) = *time;
-            let first = ends.partition_point(|end| *end < from);
-            let last = times
-                .partition_point(|time| time.0 <= until)
-                .saturating_sub(1);
+            let first = to_u32(ends.partition_point(|end| *end < from)) / 32;
+            let begun = to_u32(times.partition_point(|time| time.0 <= until));
+            let last = begun.saturating_sub(1) / 32;
             made.from.put(node, from);
             made.until.put(node, until);
-            made.first.put(node, to_u32(first) / 32);
-            made.last.put(node, to_u32(last) / 32);
+            made.first.put(node, first);
+            made.last.put(node, last);
             made.row.put(node, made.words);
-            let words = (to_u32(last) / 32)
-                .saturating_sub(to_u32(first) / 32)
-                .saturating_add(1);
+            let words = last.saturating_sub(first).saturating_add(1);
             made.words = made.words.saturating_add(words);
             if made.words > MOST_WORDS {
                 return Ok(None);
@@ -107,10 +116,7 @@ impl Precedence {
                         after |= bit(other);
                     }
                 }
-                let place = self
-                    .row
-                    .at(node)
-                    .saturating_add(word.saturating_sub(self.first.at(node)));
+                let place = self.place(node, word);
                 self.bits.set(place, after)?;
                 self.bits.set(place.saturating_add(self.words), before)?;
             }
@@ -136,7 +142,7 @@ impl Precedence {
     }
 
     /// Which nodes of a word come after the node.
-    pub fn after(&self, node: u32, word: u32) -> u32 {
+    fn after(&self, node: u32, word: u32) -> u32 {
         if word < self.first.at(node) {
             return 0;
         }
@@ -147,7 +153,7 @@ impl Precedence {
     }
 
     /// Which nodes of a word come before the node.
-    pub fn before(&self, node: u32, word: u32) -> u32 {
+    fn before(&self, node: u32, word: u32) -> u32 {
         if word < self.first.at(node) {
             return u32::MAX;
         }
@@ -158,11 +164,12 @@ impl Precedence {
             .at(self.place(node, word).saturating_add(self.words))
     }
 
-    /// The first word of what the node's times leave open, and the last.
-    pub fn first_word(&self, node: u32) -> u32 {
-        self.first.at(node)
+    /// The first node of the first word of what the node's times leave open.
+    pub fn first_beside(&self, node: u32) -> u32 {
+        self.first.at(node).saturating_mul(32)
     }
 
+    /// The last word of what the node's times leave open.
     pub fn last_word(&self, node: u32) -> u32 {
         self.last.at(node)
     }
@@ -252,15 +259,6 @@ impl Precedence {
         self.bits.keep();
     }
 
-    pub fn is_absurd(&self) -> bool {
-        self.is_absurd
-    }
-
-    /// Notes that something would have to come before itself.
-    pub fn set_absurd(&mut self) {
-        self.is_absurd = true;
-    }
-
     /// A pair whose consequences weren't drawn yet.
     pub fn next_found(&mut self) -> Option<(u32, u32)> {
         self.found.pop()
@@ -292,12 +290,10 @@ impl Precedence {
             let known = self.before(other, word) | self.bits.at(self.done_place(word));
             let mut left = (self.before(one, word) | own) & !known;
             for _ in 0..32 {
-                if left == 0 {
+                let Some(node) = take_node(word, &mut left) else {
                     break;
-                }
-                let place = left.trailing_zeros();
-                left &= left.wrapping_sub(1);
-                self.add_all_after(word.saturating_mul(32).saturating_add(place), other)?;
+                };
+                self.add_all_after(node, other)?;
             }
         }
         Ok(())
@@ -326,13 +322,9 @@ impl Precedence {
         let mut end = self.end(node);
         let mut left = nodes;
         for _ in 0..32 {
-            if left == 0 {
+            let Some(later) = take_node(word, &mut left) else {
                 break;
-            }
-            let later = word
-                .saturating_mul(32)
-                .saturating_add(left.trailing_zeros());
-            left &= left.wrapping_sub(1);
+            };
             self.note_before(later, node)?;
             self.found.push((node, later))?;
             end = end.min(self.until.at(later));

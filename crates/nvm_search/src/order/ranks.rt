@@ -13,26 +13,18 @@ pub struct Ranks {
 
 impl Ranks {
     pub fn new(alloc: Global, points: &Vec<Point<'_>>) -> Result<Ranks, NoMemory> {
-        let mut all = Vec::with_capacity(alloc, points.len())?;
+        let mut times = Vec::with_capacity(alloc, points.len())?;
         for point in points {
-            all.push(point.from)?;
+            times.push(point.from)?;
             if let Some(until) = point.until {
-                all.push(until)?;
+                times.push(until)?;
             }
             if let Some(over) = point.over {
-                all.push(over)?;
+                times.push(over)?;
             }
         }
-        all.sort()?;
-        let mut times = Vec::with_capacity(alloc, all.len())?;
-        let mut last = None;
-        for time in &all {
-            let time = *time;
-            if last != Some(time) {
-                times.push(time)?;
-                last = Some(time);
-            }
-        }
+        times.sort()?;
+        times.dedup();
         Ok(Ranks { times })
     }
 

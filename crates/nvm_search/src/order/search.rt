@@ -8,7 +8,7 @@ mod settling;
 use crate::numbers::{Numbers, ZERO, to_u32};
 use crate::order::acts::{Act, Cell, Gives, NONE, Wants};
 use crate::order::derivation::Derivation;
-use crate::order::lists::Lists;
+use crate::order::lists::{Entry, Lists};
 use crate::order::making::Part;
 use crate::order::search::memory::{Memory, key};
 use crate::order::slots::UNKNOWN;
@@ -184,24 +184,19 @@ impl<'p> Search<'p> {
     /// Whether somebody found the slot and nobody began to put it there before.
     fn is_of_start(&self, slot: u32) -> bool {
         let part = self.part;
-        let mut first = NONE;
-        if part.lists.givers.start(slot) < part.lists.givers.end(slot) {
-            first = part.lists.givers.time(part.lists.givers.start(slot));
-        }
-        let block = part.slots.block(slot);
-        if part.lists.anything.start(block) < part.lists.anything.end(block) {
-            first = first.min(part.lists.anything.time(part.lists.anything.start(block)));
-        }
-        for at in part.lists.finders.start(slot)..part.lists.finders.end(slot) {
-            if part.lists.finders.time(at) >= first {
+        let anything = part.lists.anything.first_time(part.slots.block(slot));
+        let first = part.lists.givers.first_time(slot).min(anything);
+        let finders = &part.lists.finders;
+        for at in finders.start(slot)..finders.end(slot) {
+            if finders.time(at) >= first {
                 break;
             }
-            let act = part.act(part.lists.finders.act(at));
+            let act = part.act(finders.act(at));
             if act.sure && act.until < first {
                 return true;
             }
         }
-        first == NONE && part.lists.finders.start(slot) < part.lists.finders.end(slot)
+        first == NONE && !finders.is_empty(slot)
     }
 
     fn board_place(&self, block: u32) -> u32 {
@@ -253,16 +248,11 @@ impl<'p> Search<'p> {
             return Ok(());
         }
         let part = self.part;
-        let start = part.lists.givers.start(slot);
-        let end = part
-            .lists
-            .givers
-            .first_from(slot, self.horizon.saturating_add(1));
-        for back in 0..end.saturating_sub(start).min(MOST_BLAMED) {
-            let giver = part
-                .lists
-                .givers
-                .act(end.saturating_sub(back).saturating_sub(1));
+        let givers = &part.lists.givers;
+        let end = givers.first_from(slot, self.horizon.saturating_add(1));
+        let start = givers.start(slot).max(end.saturating_sub(MOST_BLAMED));
+        for at in (start..end).rev() {
+            let giver = givers.act(at);
             if self.is_placed(giver) && part.act(giver).until >= self.latest() {
                 let step = self.state.at(giver);
                 self.blame(step)?;
@@ -335,18 +325,29 @@ impl<'p> Search<'p> {
         Ok(head)
     }
 
+    /// The acts of a group, from the first that isn't over on, whose times are before this one.
+    fn acts_before(
+        &mut self,
+        list: &'p Lists,
+        group: u32,
+        time: u32,
+    ) -> Result<&'p [Entry], NoMemory> {
+        let head = self.head(list, group)?;
+        Ok(list.before(head, group, time))
+    }
+
+    /// The acts of a group, from the first that isn't over on, whose times are no later than the horizon.
+    fn acts_begun(&mut self, list: &'p Lists, group: u32) -> Result<&'p [Entry], NoMemory> {
+        self.acts_before(list, group, self.horizon.saturating_add(1))
+    }
+
     /// Whether the cell may find what is in its block. `bound`: what nobody knows is no content.
     fn fits(&self, cell: &Cell, bound: bool) -> bool {
         let slot = self.board(cell.block);
         if self.part.slots.is_unknown(slot) {
             return !bound || cell.wants == Wants::Nothing;
         }
-        match cell.wants {
-            Wants::Nothing => true,
-            Wants::Slot(wanted) => slot == wanted,
-            Wants::AnyBytes => !self.part.slots.is_mark(slot),
-            Wants::OtherThan(other) => slot != other && !self.part.slots.is_mark(slot),
-        }
+        self.part.slots.suits(cell.wants, slot)
     }
 
     /// Whether the act may find what is there.
@@ -395,15 +396,10 @@ impl<'p> Search<'p> {
         self.put(block, slot)
     }
 
-    /// A slot of the block with bytes that nobody finds or puts.
-    fn fresh_slot(&self, block: u32) -> u32 {
-        self.part.slots.of(block, self.part.fresh)
-    }
-
     /// A slot of the block with other bytes than one: what somebody has to find soonest, or what nobody finds or puts.
     fn other_slot(&mut self, block: u32, other: u32) -> Result<u32, NoMemory> {
         let part = self.part;
-        let mut chosen = self.fresh_slot(block);
+        let mut chosen = part.slots.of(block, part.fresh);
         let mut soonest = NONE;
         for slot in part.slots.of(block, 0)..part.slots.of(block.saturating_add(1), 0) {
             let head = self.head(&part.lists.finders, slot)?;
@@ -424,18 +420,13 @@ impl<'p> Search<'p> {
         if !self.part.slots.is_unknown(self.board(cell.block)) {
             return Ok(());
         }
-        match cell.wants {
-            Wants::Nothing => Ok(()),
-            Wants::Slot(slot) => self.bind(cell.block, slot),
-            Wants::AnyBytes => {
-                let slot = self.other_slot(cell.block, NONE)?;
-                self.bind(cell.block, slot)
-            }
-            Wants::OtherThan(other) => {
-                let slot = self.other_slot(cell.block, other)?;
-                self.bind(cell.block, slot)
-            }
-        }
+        let slot = match cell.wants {
+            Wants::Nothing => return Ok(()),
+            Wants::Slot(slot) => slot,
+            Wants::AnyBytes => self.other_slot(cell.block, NONE)?,
+            Wants::OtherThan(other) => self.other_slot(cell.block, other)?,
+        };
+        self.bind(cell.block, slot)
     }
 
     /// Puts the act in order.
@@ -471,12 +462,11 @@ impl<'p> Search<'p> {
             let count = to_u32(self.steps.len()).saturating_add(1);
             self.state.set(number, count)?;
             self.hash ^= key(number, DONE);
-            let mut known = None;
-            std::mem::swap(&mut known, &mut self.known);
+            let mut known = self.known.take();
             if let Some(known) = &mut known {
                 known.set_done(self.part, &*self, number, count)?;
             }
-            std::mem::swap(&mut known, &mut self.known);
+            self.known = known;
         }
         let place = self.latest_place();
         self.state.set(place, step.latest)?;
@@ -513,16 +503,8 @@ impl<'p> Search<'p> {
         if self.failed.has(self.hash) || self.is_absurd() {
             return Ok(Way::Stuck);
         }
-        let mut turn = Turn {
-            mark: self.state.mark(),
-            known_mark: self.known_mark(),
-            steps: self.steps.len(),
-            hash: self.hash,
-            start: self.moves.len(),
-            next: self.moves.len(),
-            all: false,
-        };
-        self.find_moves(urgent)?;
+        let mut turn = self.turn(false);
+        self.find_moves(turn.start, urgent)?;
         if self.moves.len() == turn.start && self.conflict.is_empty() {
             self.find_all_moves(turn.start)?;
             turn.all = true;
@@ -532,10 +514,23 @@ impl<'p> Search<'p> {
         }
         self.draw(turn.start);
         self.turns.push(turn)?;
-        let mut in_way = Vec::new(self.alloc);
-        std::mem::swap(&mut in_way, &mut self.conflict);
+        let in_way = std::mem::replace(&mut self.conflict, Vec::new(self.alloc));
         self.conflicts.push(in_way)?;
-        self.take_move()
+        self.take_move()?;
+        Ok(Way::On)
+    }
+
+    /// A turn at this moment, whose moves are those that are found from now on.
+    fn turn(&self, all: bool) -> Turn {
+        Turn {
+            mark: self.state.mark(),
+            known_mark: self.known_mark(),
+            steps: self.steps.len(),
+            hash: self.hash,
+            start: self.moves.len(),
+            next: self.moves.len(),
+            all,
+        }
     }
 
     /// Puts one of the moves from `start` on first: with a seed not always the first.
@@ -554,17 +549,16 @@ impl<'p> Search<'p> {
     }
 
     /// Makes the next move of the last turn.
-    fn take_move(&mut self) -> Result<Way, NoMemory> {
+    fn take_move(&mut self) -> Result<(), NoMemory> {
         let Some(turn) = self.turns.last_mut() else {
-            return Ok(Way::Stuck);
+            return Ok(());
         };
         let Some(made) = self.moves.get(turn.next) else {
-            return Ok(Way::Stuck);
+            return Ok(());
         };
         let made = *made;
         turn.next = turn.next.saturating_add(1);
-        self.make_any(made)?;
-        Ok(Way::On)
+        self.make_any(made)
     }
 
     /// The last step that was in the way. Where none is known it is the last of all.
@@ -589,26 +583,13 @@ impl<'p> Search<'p> {
 
     /// Takes those steps that were in the way and stand before the turn, and those of its moves that were given up before.
     fn gather(&mut self, turn: &Turn) -> Result<(), NoMemory> {
-        let mut all = Vec::new(self.alloc);
-        for step in &self.conflict {
-            if *step as usize <= turn.steps {
-                all.push(*step)?;
-            }
-        }
+        let steps = turn.steps;
+        self.conflict.retain(|step| *step as usize <= steps);
         if let Some(old) = self.conflicts.last() {
-            for step in old {
-                all.push(*step)?;
-            }
+            self.conflict.extend_from_slice(old)?;
         }
-        all.sort()?;
-        self.conflict.clear();
-        let mut last = 0;
-        for step in &all {
-            if *step != last {
-                self.conflict.push(*step)?;
-                last = *step;
-            }
-        }
+        self.conflict.sort()?;
+        self.conflict.dedup();
         Ok(())
     }
 
@@ -677,14 +658,14 @@ impl<'p> Search<'p> {
         true
     }
 
-    /// Goes back to the turn at which the last step in the way was made, and makes another move there.
-    fn go_back(&mut self) -> Result<Way, NoMemory> {
+    /// Goes back to the turn at which the last step in the way was made, and makes another move there. Says whether there was one.
+    fn go_back(&mut self) -> Result<bool, NoMemory> {
         for _ in 0..u64::MAX {
             if self.left_back == 0 || self.left_in_all == 0 {
-                return Ok(Way::Stuck);
+                break;
             }
             let Some(turn) = self.turns.last() else {
-                return Ok(Way::Stuck);
+                break;
             };
             let turn = *turn;
             if self.last_in_way() <= turn.steps {
@@ -695,8 +676,7 @@ impl<'p> Search<'p> {
             self.return_to(&turn);
             self.gather(&turn)?;
             self.settle()?;
-            let wanted = self.wanted;
-            self.find_moves_but(turn.start, wanted)?;
+            self.find_moves(turn.start, self.wanted)?;
             if turn.next >= self.moves.len() && !turn.all {
                 self.find_all_moves(turn.start)?;
                 if let Some(last) = self.turns.last_mut() {
@@ -704,22 +684,22 @@ impl<'p> Search<'p> {
                 }
             }
             if turn.next < self.moves.len() {
-                let mut in_way = Vec::new(self.alloc);
-                std::mem::swap(&mut in_way, &mut self.conflict);
-                self.conflicts.pop();
-                self.conflicts.push(in_way)?;
-                return self.take_move();
+                if let Some(in_way) = self.conflicts.last_mut() {
+                    std::mem::swap(in_way, &mut self.conflict);
+                }
+                self.take_move()?;
+                return Ok(true);
             }
             self.failed.note(turn.hash)?;
             self.drop_turn(turn.start);
         }
-        Ok(Way::Stuck)
+        Ok(false)
     }
 
     /// Whether something would have to come before itself.
     fn is_absurd(&self) -> bool {
         match &self.known {
-            Some(known) => known.order.is_absurd(),
+            Some(known) => known.order.is_absurd,
             None => false,
         }
     }
@@ -751,14 +731,11 @@ impl<'p> Search<'p> {
     /// Whether an order was found. Its steps are `steps`.
     pub fn run(&mut self) -> Result<bool, NoMemory> {
         for _ in 0..u64::MAX {
-            let mut way = self.go_on()?;
+            let way = self.go_on()?;
             if way == Way::Done {
                 return Ok(true);
             }
-            if way == Way::Stuck {
-                way = self.go_back()?;
-            }
-            if way == Way::Stuck && !self.leap() {
+            if way == Way::Stuck && !self.go_back()? && !self.leap() {
                 return Ok(false);
             }
         }

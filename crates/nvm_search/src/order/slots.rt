@@ -1,8 +1,8 @@
 //! The contents of a part's blocks.
-use crate::numbers::{MARK, to_u32};
-use crate::order::acts::NONE;
+use crate::numbers::{MARK, ZERO, to_u32};
+use crate::order::acts::{NONE, Wants};
 use nvm_record::NoMemory;
-use std::alloc::Global;
+use nvm_standard::Deallocated;
 
 /// The value of what nobody knows.
 pub const UNKNOWN: u32 = u32::MAX;
@@ -18,22 +18,25 @@ pub struct Slot {
 #[derive(Drop)]
 pub struct Slots {
     slots: Vec<Slot>,
+    deallocated: Deallocated,
+    /// The value of a block of FFh.
+    ones: u32,
 }
 
 impl Slots {
     /// Those slots, each once.
-    pub fn new(alloc: Global, mut all: Vec<Slot>) -> Result<Slots, NoMemory> {
-        all.sort()?;
-        let mut slots = Vec::new(alloc);
-        let mut last = None;
-        for slot in &all {
-            let slot = *slot;
-            if last != Some(slot) {
-                slots.push(slot)?;
-                last = Some(slot);
-            }
-        }
-        Ok(Slots { slots })
+    pub fn new(
+        mut slots: Vec<Slot>,
+        deallocated: Deallocated,
+        ones: u32,
+    ) -> Result<Slots, NoMemory> {
+        slots.sort()?;
+        slots.dedup();
+        Ok(Slots {
+            slots,
+            deallocated,
+            ones,
+        })
     }
 
     /// How many there are.
@@ -69,5 +72,27 @@ impl Slots {
 
     pub fn is_unknown(&self, slot: u32) -> bool {
         self.value(slot) == UNKNOWN
+    }
+
+    /// Whether what finds this may find the slot.
+    pub fn suits(&self, wants: Wants, slot: u32) -> bool {
+        match wants {
+            Wants::Nothing => true,
+            Wants::Slot(wanted) => slot == wanted,
+            Wants::AnyBytes => !self.is_mark(slot),
+            Wants::OtherThan(other) => slot != other && !self.is_mark(slot),
+        }
+    }
+
+    /// The slots that a Deallocate may give in the block: that of zeroes and that of FFh, and `NONE` in the place of one that it may not.
+    pub fn deallocated(&self, block: u32) -> [u32; 2] {
+        let mut slots = [NONE, NONE];
+        if self.deallocated != Deallocated::Ones {
+            slots[0] = self.of(block, ZERO);
+        }
+        if self.deallocated != Deallocated::Zeroes {
+            slots[1] = self.of(block, self.ones);
+        }
+        slots
     }
 }

@@ -2,26 +2,29 @@
 use crate::numbers::{Numbers, block_at, to_u32};
 use crate::order::acts::NONE;
 use crate::order::making::Known;
-use crate::order::parts::Share;
 use nvm_record::{BlockSize, NoMemory};
 use nvm_standard::{Deallocated, Found, Point, Points, Presence, Put};
 use nvm_trace::Start;
 use std::alloc::Global;
 
-/// Whether the point may put these bytes in the block. A point that is done together, or after such a one, isn't asked.
-fn may_put(points: &Points<'_>, number: usize, block: u32, bytes: &[u8]) -> bool {
-    let Some(point) = points.points.get(number) else {
-        return false;
-    };
-    let Some(place) = block.checked_sub(point.first) else {
-        return false;
-    };
-    if place >= point.blocks {
-        return false;
+/// The place of a block among the point's.
+fn place_in(point: &Point<'_>, block: u32) -> Option<usize> {
+    let place = block.checked_sub(point.first)?;
+    if place < point.blocks {
+        Some(place as usize)
+    } else {
+        None
     }
+}
+
+/// Whether the point may put these bytes in the block. A point that is done together, or after such a one, isn't asked.
+fn may_put(points: &Points<'_>, point: &Point<'_>, block: u32, bytes: &[u8]) -> bool {
+    let Some(place) = place_in(point, block) else {
+        return false;
+    };
     match point.put {
         Put::Nothing | Put::Mark => false,
-        Put::Bytes(payload) => block_at(payload, points.block_size, place as usize) == bytes,
+        Put::Bytes(payload) => block_at(payload, points.block_size, place) == bytes,
         Put::Zeroes => are_all(bytes, 0),
         Put::Deallocated => {
             (points.deallocated != Deallocated::Ones && are_all(bytes, 0))
@@ -43,45 +46,27 @@ fn are_all(bytes: &[u8], one: u8) -> bool {
 
 /// Whether the point surely finds these bytes in the block, and not before a time.
 fn finds(point: &Point<'_>, size: BlockSize, block: u32, bytes: &[u8], from: u64) -> bool {
-    if point.presence != Presence::Sure {
+    if point.presence != Presence::Sure || point.until.unwrap_or(u64::MAX) < from {
         return false;
     }
-    if let Some(until) = point.until {
-        if until < from {
-            return false;
-        }
-    }
-    let Some(place) = block.checked_sub(point.first) else {
+    let Some(place) = place_in(point, block) else {
         return false;
     };
     match point.found {
-        Found::Bytes(payload) => {
-            place < point.blocks && block_at(payload, size, place as usize) == bytes
-        }
+        Found::Bytes(payload) => block_at(payload, size, place) == bytes,
         _ => false,
     }
 }
 
-/// When the point has surely put something in the block.
-fn written_by(point: &Point<'_>, block: u32) -> Option<u64> {
-    if point.presence != Presence::Sure || matches!(&point.put, Put::Nothing) {
-        return None;
+/// When the point has surely put something in the block: where it never has, the highest time.
+fn written_by(point: &Point<'_>, block: u32) -> u64 {
+    if point.presence != Presence::Sure
+        || matches!(&point.put, Put::Nothing)
+        || place_in(point, block).is_none()
+    {
+        return u64::MAX;
     }
-    let place = block.checked_sub(point.first)?;
-    if place < point.blocks {
-        point.until
-    } else {
-        None
-    }
-}
-
-/// The earlier of two times, either of which may be none.
-fn earlier(one: Option<u64>, other: Option<u64>) -> Option<u64> {
-    match (one, other) {
-        (Some(one), Some(other)) => Some(one.min(other)),
-        (Some(one), None) => Some(one),
-        (None, other) => other,
-    }
+    point.until.unwrap_or(u64::MAX)
 }
 
 /// Whether somebody found what the point puts in one of its blocks, and nobody else can have put it there.
@@ -98,27 +83,21 @@ fn was_seen(points: &Points<'_>, number: usize) -> bool {
         let of_start = points.start == Start::Unknown || are_all(bytes, 0);
         // The latest beginning of those who found it, and the first time at which the start's content was surely gone.
         let mut found = None;
-        let mut written = None;
+        let mut written = u64::MAX;
         let mut is_put = false;
         for other in 0..points.points.len() {
             if other == number {
                 continue;
             }
-            let Some(reader) = points.points.get(other) else {
-                break;
-            };
+            let reader = &points.points[other];
             if finds(reader, points.block_size, block, bytes, point.from) {
                 found = Some(reader.from.max(found.unwrap_or(0)));
             }
-            written = earlier(written, written_by(reader, block));
-            is_put = is_put || may_put(points, other, block, bytes);
+            written = written.min(written_by(reader, block));
+            is_put = is_put || may_put(points, reader, block, bytes);
         }
         if let Some(found) = found {
-            let is_gone = match written {
-                Some(written) => written < found,
-                None => false,
-            };
-            if !is_put && (is_gone || !of_start) {
+            if !is_put && (written < found || !of_start) {
                 return true;
             }
         }
@@ -130,31 +109,25 @@ fn was_seen(points: &Points<'_>, number: usize) -> bool {
 pub fn done_together(alloc: Global, points: &Points<'_>) -> Result<Numbers, NoMemory> {
     let mut done = Numbers::new(alloc, points.points.len(), 0)?;
     for number in 0..points.points.len() {
-        let Some(point) = points.points.get(number) else {
-            break;
-        };
-        if point.presence == Presence::Together && was_seen(points, number.saturating_add(1)) {
+        let is_together = points.points[number].presence == Presence::Together;
+        if is_together && was_seen(points, number.saturating_add(1)) {
             done.put(to_u32(number), 1);
         }
     }
     Ok(done)
 }
 
-/// Whether a point is left out in a part: one that is done together or not, isn't surely done, and has blocks in other parts, or what
-/// comes after such a one.
-pub fn is_left_out(known: &Known<'_, '_>, share: Share) -> bool {
-    if known.first_part.at(share.point) == known.last_part.at(share.point) {
+/// Whether the point of this number is left out in a part: one that is done together or not, isn't surely done, and has blocks in other
+/// parts, or what comes after such a one.
+pub fn is_left_out(known: &Known<'_, '_>, point: &Point<'_>, number: u32) -> bool {
+    if !known.is_split(number) {
         return false;
     }
-    let points = &known.points.points;
-    let Some(point) = points.get(share.point as usize) else {
-        return true;
-    };
     if point.presence == Presence::Together {
-        return known.together.at(share.point) == 0;
+        return known.together.at(number) == 0;
     }
-    let before = share.point.checked_sub(1).unwrap_or(NONE);
-    match points.get(before as usize) {
+    let before = number.checked_sub(1).unwrap_or(NONE);
+    match known.points.points.get(before as usize) {
         Some(first) => {
             point.after && first.presence == Presence::Together && known.together.at(before) == 0
         }

@@ -3,7 +3,7 @@ use Rattle.std.specs.Prelude.{◌≡◌, ℕ, ◌≤◌, List, replicate}
 use Rattle.std.specs.Arc.{arc_value}
 use Rattle.nvm_record.specs.declared.block.Block.{Block}
 use Rattle.nvm_store.specs.declared.blocks.levels.Levels.{Levels}
-use Rattle.nvm_store.specs.declared.blocks.levels.Levels.TheVariants.{One, Two, Three, Four, Five, Six, Seven, Eight}
+use Rattle.nvm_store.specs.declared.blocks.levels.Levels.TheVariants.{One, Two, Three, Four, Five}
 
 -- the blocks
 abbrev pub blocks_of : Levels → List Block
@@ -12,9 +12,6 @@ blocks_of (Two node) = arc_value node
 blocks_of (Three node) = arc_value node
 blocks_of (Four node) = arc_value node
 blocks_of (Five node) = arc_value node
-blocks_of (Six node) = arc_value node
-blocks_of (Seven node) = arc_value node
-blocks_of (Eight node) = arc_value node
 
 -- All of them are this block, and there are at least `count`.
 pub record AreAll (count : ℕ) (block : Block) (blocks : List Block) : Type 0 where

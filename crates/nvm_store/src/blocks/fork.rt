@@ -58,6 +58,7 @@ impl<T: Tree> Tree for Fork<T> {
         kid.stretch(at % self.span)
     }
 
+    #[inline(always)]
     fn set(&mut self, alloc: Global, at: usize, source: &Source<'_>) -> Result<(), NoMemory> {
         let place = at / self.span;
         let within = at % self.span;

@@ -54,6 +54,7 @@ impl Tree for Leaf {
         &self.kept[at..]
     }
 
+    #[inline(always)]
     fn set(&mut self, alloc: Global, at: usize, source: &Source<'_>) -> Result<(), NoMemory> {
         self.kept[at].put_first(alloc, source)
     }

@@ -21,19 +21,13 @@ const CHILDREN: usize = 16;
 const TWO: usize = LEAF * CHILDREN;
 /// The most blocks of a tree of three levels, and of a fork over forks over leaves.
 const THREE: usize = TWO * CHILDREN;
-/// The most blocks of a fork over forks of as many as [`THREE`], and so on.
-const FOUR: usize = THREE * CHILDREN;
-/// As [`FOUR`], one level higher.
-const FIVE: usize = FOUR * CHILDREN;
-/// As [`FIVE`], one level higher.
-const SIX: usize = FIVE * CHILDREN;
-/// As [`SIX`], one level higher.
-const SEVEN: usize = SIX * CHILDREN;
-/// How many times as wide as another fork the top may be, where there are four levels and more, before the tree gets one more.
-const WIDER: usize = 4;
+/// How many children a fork over forks of [`THREE`] has that isn't the top.
+const WIDE: usize = 256;
+/// The most blocks of a fork over forks of [`THREE`] that isn't the top.
+const FOUR: usize = THREE * WIDE;
 
-/// The tree of some blocks, with as many levels as their number calls for. The top of four levels and more has up to 65 children: 33 for
-/// 65,536 blocks. Only that of eight has as many as it takes: 33 for 2^32 blocks.
+/// The tree of some blocks, with as many levels as their number calls for. The top of four and five levels has as many children as it takes: 33 of four for
+/// 65,536 blocks, and 513 of five for 2^28.
 #[derive(Drop)]
 pub enum Levels {
     One(Arc<Leaf>),
@@ -41,9 +35,6 @@ pub enum Levels {
     Three(Arc<Fork<Fork<Leaf>>>),
     Four(Arc<Fork<Fork<Fork<Leaf>>>>),
     Five(Arc<Fork<Fork<Fork<Fork<Leaf>>>>>),
-    Six(Arc<Fork<Fork<Fork<Fork<Fork<Leaf>>>>>>),
-    Seven(Arc<Fork<Fork<Fork<Fork<Fork<Fork<Leaf>>>>>>>),
-    Eight(Arc<Fork<Fork<Fork<Fork<Fork<Fork<Fork<Leaf>>>>>>>>),
 }
 
 impl Levels {
@@ -64,23 +55,11 @@ impl Levels {
             return Ok(Levels::Three(Fork::of(alloc, two, TWO, count / TWO + 1)?));
         }
         let three = Fork::of(alloc, two, TWO, CHILDREN)?;
-        if count <= WIDER * FOUR {
+        if count <= 2 * FOUR {
             return Ok(Levels::Four(Fork::of(alloc, three, THREE, count / THREE + 1)?));
         }
-        let four = Fork::of(alloc, three, THREE, CHILDREN)?;
-        if count <= WIDER * FIVE {
-            return Ok(Levels::Five(Fork::of(alloc, four, FOUR, count / FOUR + 1)?));
-        }
-        let five = Fork::of(alloc, four, FOUR, CHILDREN)?;
-        if count <= WIDER * SIX {
-            return Ok(Levels::Six(Fork::of(alloc, five, FIVE, count / FIVE + 1)?));
-        }
-        let six = Fork::of(alloc, five, FIVE, CHILDREN)?;
-        if count <= WIDER * SEVEN {
-            return Ok(Levels::Seven(Fork::of(alloc, six, SIX, count / SIX + 1)?));
-        }
-        let seven = Fork::of(alloc, six, SIX, CHILDREN)?;
-        Ok(Levels::Eight(Fork::of(alloc, seven, SEVEN, count / SEVEN + 1)?))
+        let four = Fork::of(alloc, three, THREE, WIDE)?;
+        Ok(Levels::Five(Fork::of(alloc, four, FOUR, count / FOUR + 1)?))
     }
 
     /// The same tree, shared. It takes no memory.
@@ -93,9 +72,6 @@ impl Levels {
             Levels::Three(node) => Ok(Levels::Three(Arc::try_clone(node)?)),
             Levels::Four(node) => Ok(Levels::Four(Arc::try_clone(node)?)),
             Levels::Five(node) => Ok(Levels::Five(Arc::try_clone(node)?)),
-            Levels::Six(node) => Ok(Levels::Six(Arc::try_clone(node)?)),
-            Levels::Seven(node) => Ok(Levels::Seven(Arc::try_clone(node)?)),
-            Levels::Eight(node) => Ok(Levels::Eight(Arc::try_clone(node)?)),
         }
     }
 
@@ -110,9 +86,6 @@ impl Levels {
             Levels::Three(node) => node.stretch(at),
             Levels::Four(node) => node.stretch(at),
             Levels::Five(node) => node.stretch(at),
-            Levels::Six(node) => node.stretch(at),
-            Levels::Seven(node) => node.stretch(at),
-            Levels::Eight(node) => node.stretch(at),
         }
     }
 
@@ -130,9 +103,6 @@ impl Levels {
             Levels::Three(node) => set_in(node, alloc, at, source),
             Levels::Four(node) => set_in(node, alloc, at, source),
             Levels::Five(node) => set_in(node, alloc, at, source),
-            Levels::Six(node) => set_in(node, alloc, at, source),
-            Levels::Seven(node) => set_in(node, alloc, at, source),
-            Levels::Eight(node) => set_in(node, alloc, at, source),
         }
     }
 
@@ -162,9 +132,6 @@ impl Levels {
             Levels::Three(node) => fill_in(node, alloc, at, from, to, least, source),
             Levels::Four(node) => fill_in(node, alloc, at, from, to, least, source),
             Levels::Five(node) => fill_in(node, alloc, at, from, to, least, source),
-            Levels::Six(node) => fill_in(node, alloc, at, from, to, least, source),
-            Levels::Seven(node) => fill_in(node, alloc, at, from, to, least, source),
-            Levels::Eight(node) => fill_in(node, alloc, at, from, to, least, source),
         }
     }
 }

@@ -1,4 +1,4 @@
-ghost use Rattle.std.specs.Prelude.{◌≡◌, ℕ, ◌+◌, ◌*◌, ◌++◌, ◌-◌, ◌<◌, ◌≤◌, IfOk, OnErr, OnOk, length, replicate, slice_set};
+ghost use Rattle.std.specs.Prelude.{◌≡◌, ℕ, ◌+◌, ◌*◌, ◌++◌, ◌-◌, ◌<◌, ◌≤◌, IfOk, OnErr, OnOk, length, replicate};
 ghost use Rattle.std.specs.Str.{bytes_eq};
 ghost use Rattle.nvm_record.specs.declared.block.Block.TheVariants.{Uncorrectable};
 ghost use Rattle.nvm_record.specs.Lists.{IsAt};
@@ -92,7 +92,10 @@ impl SharedBlocks {
         ensures ok { OnOk result (IsRewritten at count (block_at size (lent_bytes payload.entry)) self.old self.new) }
         ensures err { OnErr result (self.new ≡ self.old) }
     {
-        let copy = if count == 1 || payload.is_shared() {
+        if count == 1 {
+            return self.set(alloc, at, &Source::Data { size, payload });
+        }
+        let copy = if payload.is_shared() {
             None
         } else {
             Some(payload.share(alloc)?)
@@ -254,7 +257,7 @@ impl SharedBlocks {
     fn set(&mut self, alloc: Global, at: usize, source: &Source<'_>) -> Result<(), NoMemory>
         requires range { at < length self.old }
         requires source { HasBlocks source.now 1 }
-        ensures ok { OnOk result (self.new ≡ slice_set self.old at (source_block source.now 0)) }
+        ensures ok { OnOk result (IsRewritten at 1 (source_block source.now) self.old self.new) }
         ensures err { OnErr result (self.new ≡ self.old) }
     {
         self.levels.set(alloc, at, source)

@@ -17,4 +17,4 @@ push_given-requires c =
     in
     let here = rw c.in-Some-2.is at c.in_ok-at.ensures in
     let lies = subst (λ (n : Namespace). IsUnitPlace n c.args.spot.unit (place_of c.in-Some-2.at.blocks)) ns here.2.lies in
-    (covered_got _ _ _ _ _ c.in-Some.ensures.covered got).covered _ lies
+    covered_got _ _ _ _ _ c.in-Some.ensures.covered got _ lies

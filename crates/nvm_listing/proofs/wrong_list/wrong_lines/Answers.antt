@@ -4,7 +4,7 @@ use Rattle.nvm_record.specs.declared.command.Command.{Command}
 use Rattle.nvm_list.specs.Words.{text_lines}
 use Rattle.nvm_list.specs.declared.fault.ListFault.{ListFault}
 use Rattle.nvm_listing.specs.WrongLines as spec
-use Rattle.nvm_listing.specs.declared.wrong_line.WrongLine.{WrongLine}
+use Rattle.nvm_listing.specs.declared.wrong_list.WrongLine.{WrongLine}
 use Rattle.nvm_listing.proofs.WrongBehind.{Agree, agree_from}
 use Rattle.nvm_listing.proofs.wrong_list.wrong_lines.Goals as goal
 

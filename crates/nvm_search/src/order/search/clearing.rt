@@ -1,6 +1,6 @@
 //! What has to be done before an act that puts something.
-use crate::numbers::ZERO;
 use crate::order::acts::{Act, Gives, NONE, Wants};
+use crate::order::lists::Lists;
 use crate::order::search::Search;
 use nvm_record::NoMemory;
 
@@ -35,12 +35,12 @@ impl<'p> Search<'p> {
     fn is_left(&mut self, number: u32, block: u32) -> Result<bool, NoMemory> {
         let part = self.part;
         let slot = self.board(block);
-        for at in self.head(&part.lists.finders, slot)?..part.lists.finders.end(slot) {
-            let finder = part.lists.finders.act(at);
+        for entry in self.acts_before(&part.lists.finders, slot, NONE)? {
+            let finder = entry.act;
             if finder == number || self.is_over(finder) {
                 continue;
             }
-            let is_begun = part.lists.finders.time(at) <= self.horizon;
+            let is_begun = entry.time <= self.horizon;
             if self.is_supplied(slot, number, finder, self.end_of(finder), 0)? {
                 if is_begun {
                     continue;
@@ -61,55 +61,49 @@ impl<'p> Search<'p> {
     /// puts it.
     fn stays_until(&mut self, number: u32, block: u32, slot: u32) -> Result<u32, NoMemory> {
         let part = self.part;
-        let mut supplied = NONE;
-        for at in self.head(&part.lists.givers, slot)?..part.lists.givers.end(slot) {
-            let giver = part.lists.givers.act(at);
-            if giver != number && !self.is_over(giver) {
-                supplied = part.lists.givers.time(at);
-                break;
-            }
-        }
-        for at in self.head(&part.lists.anything, block)?..part.lists.anything.end(block) {
-            let giver = part.lists.anything.act(at);
-            if giver != number && !self.is_over(giver) {
-                supplied = supplied.min(part.lists.anything.time(at));
-                break;
-            }
-        }
-        let head = self.head(&part.lists.finders, slot)?;
-        let end = part.lists.finders.end(slot);
-        let mut latest = 0;
+        let given = self.next_of(&part.lists.givers, slot, number)?;
+        let supplied = given.min(self.next_of(&part.lists.anything, block, number)?);
+        let finders = &part.lists.finders;
+        let head = self.head(finders, slot)?;
+        let end = finders.end(slot);
         if supplied == NONE {
-            for back in 0..end.saturating_sub(head) {
-                let at = end.saturating_sub(back).saturating_sub(1);
-                let finder = part.lists.finders.act(at);
+            for at in (head..end).rev() {
+                let finder = finders.act(at);
                 if finder != number && !self.is_over(finder) {
-                    return Ok(part.lists.finders.time(at));
+                    return Ok(finders.time(at));
                 }
             }
             return Ok(0);
         }
+        let mut latest = 0;
         for at in head..end {
-            if part.lists.finders.time(at) >= supplied {
+            if finders.time(at) >= supplied {
                 break;
             }
-            let finder = part.lists.finders.act(at);
+            let finder = finders.act(at);
             if finder != number && !self.is_over(finder) && self.end_of(finder) < supplied {
-                latest = latest.max(part.lists.finders.time(at));
+                latest = latest.max(finders.time(at));
             }
         }
         Ok(latest)
+    }
+
+    /// The time of the first act of a list's group that isn't over, but for this one.
+    fn next_of(&mut self, list: &'p Lists, group: u32, but: u32) -> Result<u32, NoMemory> {
+        for entry in self.acts_before(list, group, NONE)? {
+            if entry.act != but && !self.is_over(entry.act) {
+                return Ok(entry.time);
+            }
+        }
+        Ok(NONE)
     }
 
     /// Whether each act of the block that has to be done while what this one puts stays there can be done before.
     fn is_in_time(&mut self, number: u32, block: u32, slot: u32) -> Result<bool, NoMemory> {
         let part = self.part;
         let until = self.stays_until(number, block, slot)?;
-        for at in self.head(&part.lists.sure, block)?..part.lists.sure.end(block) {
-            if part.lists.sure.time(at) >= until {
-                break;
-            }
-            let other = part.lists.sure.act(at);
+        for entry in self.acts_before(&part.lists.sure, block, until)? {
+            let other = entry.act;
             if other == number || self.is_over(other) {
                 continue;
             }
@@ -117,7 +111,9 @@ impl<'p> Search<'p> {
             let Some(cell) = part.cell_of(&act, block) else {
                 continue;
             };
-            if cell.gives == Gives::Slot(slot) || self.can_be_after(&cell.wants, slot) {
+            // A change alone that finds nothing can't be behind, where something stays.
+            let can_be_after = cell.wants != Wants::Nothing && part.slots.suits(cell.wants, slot);
+            if cell.gives == Gives::Slot(slot) || can_be_after {
                 continue;
             }
             if act.from > self.horizon {
@@ -128,26 +124,13 @@ impl<'p> Search<'p> {
         Ok(true)
     }
 
-    /// Whether what finds this can come after the slot was put. A change alone that finds nothing can't, where something stays.
-    fn can_be_after(&self, wants: &Wants, slot: u32) -> bool {
-        match *wants {
-            Wants::Nothing => false,
-            Wants::Slot(wanted) => wanted == slot,
-            Wants::AnyBytes => !self.part.slots.is_mark(slot),
-            Wants::OtherThan(other) => other != slot && !self.part.slots.is_mark(slot),
-        }
-    }
-
     /// Makes targets of tied acts that aren't done and of whose point another block of the entry is done.
     fn aim_at_tied(&mut self, entry: &Act) -> Result<(), NoMemory> {
         let part = self.part;
         for at in entry.cell..entry.cells_end() {
             let block = part.cell(at).block;
-            for place in self.head(&part.lists.tied, block)?..part.lists.tied.end(block) {
-                if part.lists.tied.time(place) > self.horizon {
-                    break;
-                }
-                let number = part.lists.tied.act(place);
+            for tied in self.acts_begun(&part.lists.tied, block)? {
+                let number = tied.act;
                 if self.is_over(number) {
                     continue;
                 }
@@ -178,26 +161,15 @@ impl<'p> Search<'p> {
         let part = self.part;
         for at in act.cell..act.cells_end() {
             let block = part.cell(at).block;
-            for place in self.head(&part.lists.deallocates, block)?..part
-                .lists
-                .deallocates
-                .end(block)
-            {
-                if part.lists.deallocates.time(place) >= act.from {
-                    break;
-                }
-                let number = part.lists.deallocates.act(place);
+            for entry in self.acts_before(&part.lists.deallocates, block, act.from)? {
+                let number = entry.act;
                 if self.is_over(number) {
                     continue;
                 }
-                let other = part.act(number);
-                let zeroes = part.slots.of(block, ZERO);
-                if part.zeroes_deallocated && self.is_needed(number, &other, zeroes, act.from)? {
-                    self.aim(number, zeroes)?;
-                }
-                let ones = part.slots.of(block, part.ones);
-                if part.ones_deallocated && self.is_needed(number, &other, ones, act.from)? {
-                    self.aim(number, ones)?;
+                for slot in part.slots.deallocated(block) {
+                    if slot != NONE && self.is_needed(number, slot, act.from)? {
+                        self.aim(number, slot)?;
+                    }
                 }
             }
         }

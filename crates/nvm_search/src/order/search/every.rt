@@ -1,8 +1,7 @@
 //! Every order of a part's acts, one after the other, where moves that look right lead to none.
-use crate::numbers::ZERO;
 use crate::order::acts::{Act, Cell, Gives, NONE, Wants};
 use crate::order::lists::Lists;
-use crate::order::search::{Move, Search, Turn};
+use crate::order::search::{Move, Search};
 use nvm_record::NoMemory;
 
 /// How many looks it is to try an act that can be next.
@@ -62,16 +61,7 @@ impl<'p> Search<'p> {
     /// done at all.
     fn find_every_move(&mut self) -> Result<(), NoMemory> {
         let part = self.part;
-        let start = self.moves.len();
-        let turn = Turn {
-            mark: self.state.mark(),
-            known_mark: self.known_mark(),
-            steps: self.steps.len(),
-            hash: self.hash,
-            start,
-            next: start,
-            all: true,
-        };
+        let turn = self.turn(true);
         let mut later = Later {
             unclear: Vec::new(self.alloc),
             optional: Vec::new(self.alloc),
@@ -84,7 +74,7 @@ impl<'p> Search<'p> {
             }
             let number = part.lists.by_from.act(at);
             if self.is_unseen(number)? {
-                self.moves.truncate(start);
+                self.moves.truncate(turn.start);
                 self.moves.push(Move {
                     act: number,
                     slot: NONE,
@@ -195,7 +185,7 @@ impl<'p> Search<'p> {
                 || self.has_begun(&part.lists.willing, given, NONE)?
                 || self.has_begun(&part.lists.finders, board, act.until)?
                 || self.has_begun(&part.lists.willing, board, act.until)?
-                || self.has_loose(number, cell.block)?
+                || self.has_loose(&act, cell.block)?
                 || self.has_begun(&part.lists.deallocates, cell.block, act.from)?
             {
                 return Ok(false);
@@ -206,36 +196,25 @@ impl<'p> Search<'p> {
 
     /// Whether somebody may find something in the block that isn't what was compared. Whoever comes behind something else that is surely put
     /// there after the act doesn't count.
-    fn has_loose(&mut self, number: u32, block: u32) -> Result<bool, NoMemory> {
+    fn has_loose(&mut self, act: &Act, block: u32) -> Result<bool, NoMemory> {
         let part = self.part;
-        let until = self.rewritten_by(number, block)?;
-        self.has_begun(&part.lists.loose, block, until)
-    }
-
-    /// When something is surely in the block that was put there behind the act.
-    fn rewritten_by(&mut self, number: u32, block: u32) -> Result<u32, NoMemory> {
-        let part = self.part;
-        let writers = &part.lists.writers;
-        let after = part.act(number).until;
-        for at in self.head(writers, block)?..writers.end(block) {
-            let act = part.act(writers.act(at));
-            if writers.time(at) > after && act.sure && !act.any {
-                return Ok(act.until);
+        let mut rewritten = NONE;
+        for entry in self.acts_before(&part.lists.writers, block, NONE)? {
+            let writer = part.act(entry.act);
+            if entry.time > act.until && writer.sure && !writer.any {
+                rewritten = writer.until;
+                break;
             }
         }
-        Ok(NONE)
+        self.has_begun(&part.lists.loose, block, rewritten)
     }
 
     /// Whether something may come between the tied look and another block of its point: what doesn't put anything there.
     fn may_be_apart(&mut self, look: &Act) -> Result<bool, NoMemory> {
         let part = self.part;
         let block = part.cell(look.cell).block;
-        for at in self.head(&part.lists.writers, block)?..part.lists.writers.end(block) {
-            if part.lists.writers.time(at) > self.horizon {
-                break;
-            }
-            let writer = part.lists.writers.act(at);
-            if !self.is_over(writer) && self.leaves_one(&part.act(writer), look) {
+        for entry in self.acts_begun(&part.lists.writers, block)? {
+            if !self.is_over(entry.act) && self.leaves_one(&part.act(entry.act), look) {
                 return Ok(true);
             }
         }
@@ -280,11 +259,8 @@ impl<'p> Search<'p> {
         let Wants::Slot(slot) = cell.wants else {
             return Ok(None);
         };
-        for at in self.head(&part.lists.givers, slot)?..part.lists.givers.end(slot) {
-            if part.lists.givers.time(at) > self.horizon {
-                break;
-            }
-            let giver = part.lists.givers.act(at);
+        for entry in self.acts_begun(&part.lists.givers, slot)? {
+            let giver = entry.act;
             let act = part.act(giver);
             if !act.sure && !act.is_look && act.cells == 1 && self.can_be_tried(giver)? {
                 return Ok(Some(Move { act: giver, slot }));
@@ -388,8 +364,8 @@ impl<'p> Search<'p> {
     fn is_last_of(&mut self, number: u32, block: u32) -> Result<bool, NoMemory> {
         let part = self.part;
         let slot = self.board(block);
-        for at in self.head(&part.lists.finders, slot)?..part.lists.finders.end(slot) {
-            let finder = part.lists.finders.act(at);
+        for entry in self.acts_before(&part.lists.finders, slot, NONE)? {
+            let finder = entry.act;
             if finder != number
                 && !self.is_over(finder)
                 && !self.can_be_given(slot, number, finder)?
@@ -404,11 +380,8 @@ impl<'p> Search<'p> {
     fn can_be_given(&mut self, slot: u32, one: u32, finder: u32) -> Result<bool, NoMemory> {
         let part = self.part;
         let until = part.act(finder).until;
-        for at in self.head(&part.lists.givers, slot)?..part.lists.givers.end(slot) {
-            if part.lists.givers.time(at) > until {
-                break;
-            }
-            let giver = part.lists.givers.act(at);
+        for entry in self.acts_before(&part.lists.givers, slot, until.saturating_add(1))? {
+            let giver = entry.act;
             if giver != one && giver != finder && !self.is_over(giver) {
                 return Ok(true);
             }
@@ -421,11 +394,8 @@ impl<'p> Search<'p> {
         let part = self.part;
         for at in entry.cell..entry.cells_end() {
             let block = part.cell(at).block;
-            for place in self.head(&part.lists.tied, block)?..part.lists.tied.end(block) {
-                if part.lists.tied.time(place) > self.horizon {
-                    break;
-                }
-                let number = part.lists.tied.act(place);
+            for tied in self.acts_begun(&part.lists.tied, block)? {
+                let number = tied.act;
                 if !self.is_over(number) && self.begun_in(entry, &part.act(number)) != 0 {
                     return Ok(true);
                 }
@@ -447,13 +417,10 @@ impl<'p> Search<'p> {
                 later,
             );
         }
-        if part.zeroes_deallocated {
-            let slot = part.slots.of(cell.block, ZERO);
-            self.add_try(Move { act: number, slot }, later)?;
-        }
-        if part.ones_deallocated {
-            let slot = part.slots.of(cell.block, part.ones);
-            self.add_try(Move { act: number, slot }, later)?;
+        for slot in part.slots.deallocated(cell.block) {
+            if slot != NONE {
+                self.add_try(Move { act: number, slot }, later)?;
+            }
         }
         Ok(())
     }

@@ -1,20 +1,11 @@
 //! Which acts can be next: the one that has to be done first, or what has to be done before it.
-use crate::numbers::ZERO;
 use crate::order::acts::{Act, Cell, Gives, NONE, Wants};
 use crate::order::search::{Move, Search, Target};
 use nvm_record::NoMemory;
 
 impl<'p> Search<'p> {
-    /// Finds moves that lead to the urgent act.
-    pub(super) fn find_moves(&mut self, urgent: u32) -> Result<(), NoMemory> {
-        self.round = self.round.saturating_add(1);
-        self.targets.clear();
-        self.aim(urgent, NONE)?;
-        self.visit_all()
-    }
-
     /// Finds moves that lead to an act, but for those from `start` on.
-    pub(super) fn find_moves_but(&mut self, start: usize, wanted: u32) -> Result<(), NoMemory> {
+    pub(super) fn find_moves(&mut self, start: usize, wanted: u32) -> Result<(), NoMemory> {
         self.skip_moves(start);
         self.aim(wanted, NONE)?;
         self.visit_all()
@@ -34,13 +25,9 @@ impl<'p> Search<'p> {
     pub(super) fn find_all_moves(&mut self, start: usize) -> Result<(), NoMemory> {
         let part = self.part;
         self.skip_moves(start);
-        for at in self.head(&part.lists.changes, 0)?..part.lists.changes.end(0) {
-            if part.lists.changes.time(at) > self.horizon {
-                break;
-            }
-            let number = part.lists.changes.act(at);
-            if !self.is_over(number) {
-                self.aim(number, NONE)?;
+        for entry in self.acts_begun(&part.lists.changes, 0)? {
+            if !self.is_over(entry.act) {
+                self.aim(entry.act, NONE)?;
                 self.visit_all()?;
             }
         }
@@ -163,24 +150,22 @@ impl<'p> Search<'p> {
     fn aim_at_givers(&mut self, act: &Act) -> Result<(), NoMemory> {
         for at in act.cell..act.cells_end() {
             let cell = self.part.cell(at);
-            if !self.fits(&cell, false) {
-                match cell.wants {
-                    Wants::Nothing => {}
-                    Wants::Slot(slot) => {
-                        self.blame(self.loser(slot))?;
-                        self.blame_givers(slot)?;
-                        self.aim_at_slot(slot)?
-                    }
-                    Wants::AnyBytes => {
-                        self.blame(self.setter(cell.block))?;
-                        self.aim_at_others(&cell, NONE)?
-                    }
-                    Wants::OtherThan(other) => {
-                        self.blame(self.setter(cell.block))?;
-                        self.aim_at_others(&cell, other)?
-                    }
-                }
+            if self.fits(&cell, false) {
+                continue;
             }
+            let other = match cell.wants {
+                Wants::Nothing => continue,
+                Wants::Slot(slot) => {
+                    self.blame(self.loser(slot))?;
+                    self.blame_givers(slot)?;
+                    self.aim_at_slot(slot)?;
+                    continue;
+                }
+                Wants::AnyBytes => NONE,
+                Wants::OtherThan(other) => other,
+            };
+            self.blame(self.setter(cell.block))?;
+            self.aim_at_others(&cell, other)?;
         }
         Ok(())
     }
@@ -189,21 +174,14 @@ impl<'p> Search<'p> {
     fn aim_at_slot(&mut self, slot: u32) -> Result<(), NoMemory> {
         let part = self.part;
         let block = part.slots.block(slot);
-        for at in self.head(&part.lists.anything, block)?..part.lists.anything.end(block) {
-            if part.lists.anything.time(at) > self.horizon {
-                break;
-            }
-            self.aim(part.lists.anything.act(at), slot)?;
+        for entry in self.acts_begun(&part.lists.anything, block)? {
+            self.aim(entry.act, slot)?;
         }
-        let head = self.head(&part.lists.givers, slot)?;
+        let givers = self.acts_begun(&part.lists.givers, slot)?;
         for sure in [false, true] {
-            for at in head..part.lists.givers.end(slot) {
-                if part.lists.givers.time(at) > self.horizon {
-                    break;
-                }
-                let giver = part.lists.givers.act(at);
-                if part.act(giver).sure == sure && !self.is_over(giver) {
-                    self.aim(giver, slot)?;
+            for entry in givers {
+                if part.act(entry.act).sure == sure && !self.is_over(entry.act) {
+                    self.aim(entry.act, slot)?;
                 }
             }
         }
@@ -213,11 +191,8 @@ impl<'p> Search<'p> {
     /// Makes targets of those who put bytes in the cell's block other than a slot's.
     fn aim_at_others(&mut self, cell: &Cell, other: u32) -> Result<(), NoMemory> {
         let part = self.part;
-        for at in self.head(&part.lists.writers, cell.block)?..part.lists.writers.end(cell.block) {
-            if part.lists.writers.time(at) > self.horizon {
-                break;
-            }
-            let writer = part.lists.writers.act(at);
+        for entry in self.acts_begun(&part.lists.writers, cell.block)? {
+            let writer = entry.act;
             let Some(given) = part.cell_of(&part.act(writer), cell.block) else {
                 continue;
             };
@@ -266,15 +241,12 @@ impl<'p> Search<'p> {
         if anything < part.lists.anything.end(cell.block) {
             return Ok(true);
         }
-        for at in self.head(&part.lists.givers, slot)?..part.lists.givers.end(slot) {
-            if part.lists.givers.time(at) > act.until {
-                break;
-            }
-            let giver = part.lists.givers.act(at);
-            if self.is_over(giver) {
+        let time = act.until.saturating_add(1);
+        for entry in self.acts_before(&part.lists.givers, slot, time)? {
+            if self.is_over(entry.act) {
                 continue;
             }
-            let giver = part.act(giver);
+            let giver = part.act(entry.act);
             if part.cell_of(&giver, block).is_none() && self.begun_in(&giver, act) == 0 {
                 return Ok(true);
             }
@@ -285,13 +257,9 @@ impl<'p> Search<'p> {
     /// What a Deallocate may leave in the block other than a slot: what somebody has to find there, if that is one.
     fn deallocated_slot(&mut self, block: u32, other: u32) -> Result<u32, NoMemory> {
         let part = self.part;
-        let mut chosen = NONE;
-        let zeroes = part.slots.of(block, ZERO);
-        let ones = part.slots.of(block, part.ones);
-        if part.zeroes_deallocated && zeroes != other {
-            chosen = zeroes;
-        }
-        if part.ones_deallocated && ones != other {
+        let [zeroes, ones] = part.slots.deallocated(block);
+        let mut chosen = if zeroes != other { zeroes } else { NONE };
+        if ones != NONE && ones != other {
             let head = self.head(&part.lists.finders, ones)?;
             if chosen == NONE || head < part.lists.finders.end(ones) {
                 chosen = ones;

@@ -1,5 +1,5 @@
 //! Looks that are done as soon as they find what they found: they change nothing, so that no order is lost.
-use crate::order::acts::{Act, Cell, Gives, NONE, Wants};
+use crate::order::acts::{Act, Cell, Gives, NONE};
 use crate::order::lists::Lists;
 use crate::order::search::Search;
 use nvm_record::NoMemory;
@@ -42,12 +42,9 @@ impl<'p> Search<'p> {
     }
 
     /// Does the looks of a list's group that can be done.
-    fn look_all(&mut self, list: &Lists, group: u32) -> Result<(), NoMemory> {
-        for at in self.head(list, group)?..list.end(group) {
-            if list.time(at) > self.horizon {
-                break;
-            }
-            self.look(list.act(at))?;
+    fn look_all(&mut self, list: &'p Lists, group: u32) -> Result<(), NoMemory> {
+        for entry in self.acts_begun(list, group)? {
+            self.look(entry.act)?;
         }
         Ok(())
     }
@@ -107,11 +104,8 @@ impl<'p> Search<'p> {
         if act.from <= self.latest() {
             return Ok(None);
         }
-        for at in self.head(&part.lists.optional, 0)?..part.lists.optional.end(0) {
-            if part.lists.optional.time(at) >= act.from {
-                break;
-            }
-            let number = part.lists.optional.act(at);
+        for entry in self.acts_before(&part.lists.optional, 0, act.from)? {
+            let number = entry.act;
             if self.is_over(number) {
                 continue;
             }
@@ -120,7 +114,7 @@ impl<'p> Search<'p> {
             }
             let other = part.act(number);
             for at in other.cell..other.cells_end() {
-                if let Some(slot) = self.needed_of(number, &other, &part.cell(at), act.from)? {
+                if let Some(slot) = self.needed_of(number, &part.cell(at), act.from)? {
                     return Ok(Some((number, slot)));
                 }
             }
@@ -129,13 +123,7 @@ impl<'p> Search<'p> {
     }
 
     /// The slot that somebody needs of what the cell may give.
-    fn needed_of(
-        &mut self,
-        number: u32,
-        act: &Act,
-        cell: &Cell,
-        after: u32,
-    ) -> Result<Option<u32>, NoMemory> {
+    fn needed_of(&mut self, number: u32, cell: &Cell, after: u32) -> Result<Option<u32>, NoMemory> {
         let part = self.part;
         let (from, to) = match cell.gives {
             Gives::Slot(slot) => (slot, slot.saturating_add(1)),
@@ -146,7 +134,7 @@ impl<'p> Search<'p> {
             Gives::Nothing | Gives::Deallocated => (0, 0),
         };
         for slot in from..to {
-            if self.is_needed(number, act, slot, after)? {
+            if self.is_needed(number, slot, after)? {
                 return Ok(Some(slot));
             }
         }
@@ -158,11 +146,11 @@ impl<'p> Search<'p> {
     pub(super) fn is_needed(
         &mut self,
         number: u32,
-        act: &Act,
         slot: u32,
         after: u32,
     ) -> Result<bool, NoMemory> {
         let part = self.part;
+        let from = part.act(number).from;
         if self.board(part.slots.block(slot)) == slot {
             return Ok(false);
         }
@@ -172,19 +160,20 @@ impl<'p> Search<'p> {
                 continue;
             }
             let until = self.end_of(finder);
-            if until >= act.from && !self.is_supplied(slot, number, finder, until, after)? {
+            if until >= from && !self.is_supplied(slot, number, finder, until, after)? {
                 return Ok(true);
             }
             if part.lists.finders.time(at) > self.horizon {
                 break;
             }
         }
-        self.is_needed_otherwise(number, act, slot)
+        self.is_needed_otherwise(number, slot)
     }
 
     /// Whether somebody has to find something else than what is in the slot's block, and nobody else puts anything there in time.
-    fn is_needed_otherwise(&mut self, number: u32, act: &Act, slot: u32) -> Result<bool, NoMemory> {
+    fn is_needed_otherwise(&mut self, number: u32, slot: u32) -> Result<bool, NoMemory> {
         let part = self.part;
+        let from = part.act(number).from;
         let block = part.slots.block(slot);
         let board = self.board(block);
         if part.slots.is_mark(slot) {
@@ -199,14 +188,8 @@ impl<'p> Search<'p> {
             let Some(cell) = part.cell_of(&other, block) else {
                 continue;
             };
-            let waits = match cell.wants {
-                Wants::OtherThan(value) => {
-                    value != slot && (value == board || part.slots.is_mark(board))
-                }
-                Wants::AnyBytes => part.slots.is_mark(board),
-                Wants::Nothing | Wants::Slot(_) => false,
-            };
-            if waits && other.until >= act.from && !self.is_written(number, block, other.until)? {
+            let waits = part.slots.suits(cell.wants, slot) && !part.slots.suits(cell.wants, board);
+            if waits && other.until >= from && !self.is_written(number, block, other.until)? {
                 return Ok(true);
             }
             if part.lists.loose.time(at) > self.horizon {
@@ -219,11 +202,8 @@ impl<'p> Search<'p> {
     /// Whether another act surely puts something in the block that begins by a time.
     fn is_written(&mut self, one: u32, block: u32, until: u32) -> Result<bool, NoMemory> {
         let part = self.part;
-        for at in self.head(&part.lists.writers, block)?..part.lists.writers.end(block) {
-            if part.lists.writers.time(at) > until {
-                break;
-            }
-            let writer = part.lists.writers.act(at);
+        for entry in self.acts_before(&part.lists.writers, block, until.saturating_add(1))? {
+            let writer = entry.act;
             if writer != one && !self.is_over(writer) && part.act(writer).sure {
                 return Ok(true);
             }
@@ -243,20 +223,15 @@ impl<'p> Search<'p> {
         let part = self.part;
         let block = part.slots.block(slot);
         let is_begun = part.act(other).from <= self.horizon;
-        for at in self.head(&part.lists.anything, block)?..part.lists.anything.end(block) {
-            if part.lists.anything.time(at) > until {
-                break;
-            }
-            let giver = part.lists.anything.act(at);
+        let time = until.saturating_add(1);
+        for entry in self.acts_before(&part.lists.anything, block, time)? {
+            let giver = entry.act;
             if giver != one && !self.is_over(giver) && part.act(giver).until >= after {
                 return Ok(true);
             }
         }
-        for at in self.head(&part.lists.givers, slot)?..part.lists.givers.end(slot) {
-            if part.lists.givers.time(at) > until {
-                break;
-            }
-            let giver = part.lists.givers.act(at);
+        for entry in self.acts_before(&part.lists.givers, slot, time)? {
+            let giver = entry.act;
             if giver == one || giver == other || self.is_over(giver) {
                 continue;
             }

@@ -1,5 +1,4 @@
-use Rattle.std.proofs.Common.{◌≡◌, ◌∙◌, ◌++◌, ◌-◌, ℕ, ap, sym, arith, length}
-use Rattle.nvm_c.specs.Inside.Pieces.{piece_of}
+use Rattle.std.proofs.Common.{◌∙◌, ◌++◌, ap, arith}
 use Rattle.std.proofs.lemmas.List.{length-append}
 use Rattle.nvm_c.proofs.Pieces.{piece_more}
 use Rattle.nvm_c.proofs.window.WindowWrite.write.Goals as goal

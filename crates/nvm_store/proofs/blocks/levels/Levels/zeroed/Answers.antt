@@ -30,61 +30,19 @@ returns-then-count c =
       are = c.in_ok-of-3.ensures block (c.in_ok-three.ensures block (c.in_ok-two.ensures block c.in_ok-leaf.ensures));
     }
 
-pub returns-then-count-2 : goal.returns-then-count-2
-returns-then-count-2 c =
-    let block = zero_block c.args.size in
-    record {
-      all = (c.args.count / 32768 + 1) * 32768;
-      enough = omega arith;
-      are = c.in_ok-of-4.ensures block (c.in_ok-four.ensures block (c.in_ok-three.ensures block (c.in_ok-two.ensures block c.in_ok-leaf.ensures)));
-    }
-
-pub returns-then-count-3 : goal.returns-then-count-3
-returns-then-count-3 c =
-    let block = zero_block c.args.size in
-    record {
-      all = (c.args.count / 524288 + 1) * 524288;
-      enough = omega arith;
-      are = c.in_ok-of-5.ensures block (c.in_ok-five.ensures block (c.in_ok-four.ensures block (c.in_ok-three.ensures block (c.in_ok-two.ensures block c.in_ok-leaf.ensures))));
-    }
-
-pub returns-then-count-4 : goal.returns-then-count-4
-returns-then-count-4 c =
-    let block = zero_block c.args.size in
-    record {
-      all = (c.args.count / 8388608 + 1) * 8388608;
-      enough = omega arith;
-      are = c.in_ok-of-6.ensures block (c.in_ok-six.ensures block (c.in_ok-five.ensures block (c.in_ok-four.ensures block (c.in_ok-three.ensures block (c.in_ok-two.ensures block c.in_ok-leaf.ensures)))));
-    }
-
 pub returns : goal.returns
 returns c =
     let block = zero_block c.args.size in
     record {
-      all = (c.args.count / 134217728 + 1) * 134217728;
+      all = (c.args.count / 524288 + 1) * 524288;
       enough = omega arith;
-      are = c.in_ok-of-7.ensures block (c.in_ok-seven.ensures block (c.in_ok-six.ensures block (c.in_ok-five.ensures block (c.in_ok-four.ensures block (c.in_ok-three.ensures block (c.in_ok-two.ensures block c.in_ok-leaf.ensures))))));
+      are = c.in_ok-of-4.ensures block (c.in_ok-four.ensures block (c.in_ok-three.ensures block (c.in_ok-two.ensures block c.in_ok-leaf.ensures)));
     }
 
 pub of-requires-then-count-clause-span : goal.of-requires-then-count-clause-span
 of-requires-then-count-clause-span c =
     let block = zero_block c.args.size in
     ap length (c.in_ok-three.ensures block (c.in_ok-two.ensures block c.in_ok-leaf.ensures)) ∙ length-replicate 2048 block
-
-pub of-requires-then-count-2-clause-span : goal.of-requires-then-count-2-clause-span
-of-requires-then-count-2-clause-span c =
-    let block = zero_block c.args.size in
-    ap length (c.in_ok-four.ensures block (c.in_ok-three.ensures block (c.in_ok-two.ensures block c.in_ok-leaf.ensures))) ∙ length-replicate 32768 block
-
-pub of-requires-then-count-3-clause-span : goal.of-requires-then-count-3-clause-span
-of-requires-then-count-3-clause-span c =
-    let block = zero_block c.args.size in
-    ap length (c.in_ok-five.ensures block (c.in_ok-four.ensures block (c.in_ok-three.ensures block (c.in_ok-two.ensures block c.in_ok-leaf.ensures)))) ∙ length-replicate 524288 block
-
-pub of-requires-then-count-4-clause-span : goal.of-requires-then-count-4-clause-span
-of-requires-then-count-4-clause-span c =
-    let block = zero_block c.args.size in
-    ap length (c.in_ok-six.ensures block (c.in_ok-five.ensures block (c.in_ok-four.ensures block (c.in_ok-three.ensures block (c.in_ok-two.ensures block c.in_ok-leaf.ensures))))) ∙ length-replicate 8388608 block
 
 pub of-requires-4-clause-span : goal.of-requires-4-clause-span
 of-requires-4-clause-span c =
@@ -94,19 +52,4 @@ of-requires-4-clause-span c =
 pub of-requires-5-clause-span : goal.of-requires-5-clause-span
 of-requires-5-clause-span c =
     let block = zero_block c.args.size in
-    ap length (c.in_ok-four.ensures block (c.in_ok-three.ensures block (c.in_ok-two.ensures block c.in_ok-leaf.ensures))) ∙ length-replicate 32768 block
-
-pub of-requires-6-clause-span : goal.of-requires-6-clause-span
-of-requires-6-clause-span c =
-    let block = zero_block c.args.size in
-    ap length (c.in_ok-five.ensures block (c.in_ok-four.ensures block (c.in_ok-three.ensures block (c.in_ok-two.ensures block c.in_ok-leaf.ensures)))) ∙ length-replicate 524288 block
-
-pub of-requires-7-clause-span : goal.of-requires-7-clause-span
-of-requires-7-clause-span c =
-    let block = zero_block c.args.size in
-    ap length (c.in_ok-six.ensures block (c.in_ok-five.ensures block (c.in_ok-four.ensures block (c.in_ok-three.ensures block (c.in_ok-two.ensures block c.in_ok-leaf.ensures))))) ∙ length-replicate 8388608 block
-
-pub of-requires-8-clause-span : goal.of-requires-8-clause-span
-of-requires-8-clause-span c =
-    let block = zero_block c.args.size in
-    ap length (c.in_ok-seven.ensures block (c.in_ok-six.ensures block (c.in_ok-five.ensures block (c.in_ok-four.ensures block (c.in_ok-three.ensures block (c.in_ok-two.ensures block c.in_ok-leaf.ensures)))))) ∙ length-replicate 134217728 block
+    ap length (c.in_ok-four.ensures block (c.in_ok-three.ensures block (c.in_ok-two.ensures block c.in_ok-leaf.ensures))) ∙ length-replicate 524288 block

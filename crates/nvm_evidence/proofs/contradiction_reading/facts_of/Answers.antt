@@ -2,7 +2,7 @@ use Rattle.std.proofs.Common.{[], ◌∷◌, rules, arith}
 use Rattle.std.proofs.lemmas.Result.{err_from_is_err_and}
 use Rattle.nvm_evidence.specs.ContradictionReading.{fact_at}
 use Rattle.nvm_evidence.proofs.ItemLoops.{begun, ended, failed, one_more}
-use Rattle.nvm_evidence.proofs.contradiction_reading.some_facts_of.Goals as goal
+use Rattle.nvm_evidence.proofs.contradiction_reading.facts_of.Goals as goal
 
 pub loop-init : goal.loop-init
 loop-init c = rw c.in_ok-facts.ensures.items (begun (λ _. fact_at c.args.total) c.args.count c.args.from.now)
