@@ -3,6 +3,7 @@
 
 #include <errno.h>
 #include <fcntl.h>
+#include <pthread.h>
 #include <setjmp.h>
 #include <stdarg.h>
 #include <stdio.h>
@@ -11,7 +12,7 @@
 #include <sys/stat.h>
 #include <unistd.h>
 
-enum { MOST_OPEN = 16, FIRST_OPEN = 1000, MOST_WORDS = 32 };
+enum { MOST_OPEN = 16, FIRST_OPEN = 1000, MOST_WORDS = 32, PLACES = 4096 };
 
 struct open {
     struct file *file;
@@ -23,6 +24,20 @@ struct stream {
     size_t size, room;
 };
 
+/* Memory that the program has. */
+struct taken {
+    void *at;
+    struct taken *next;
+};
+
+/* What the kit's calls that take memory return. */
+struct tried {
+    bool ok;
+    void *at;
+};
+
+static struct taken *taken[PLACES];
+static pthread_mutex_t taking = PTHREAD_MUTEX_INITIALIZER;
 static struct file files[MOST_FILES];
 static struct open opened[MOST_OPEN];
 static struct stream streams[2];    /* standard output and standard error */
@@ -31,6 +46,9 @@ static size_t word_count;
 static jmp_buf leaving;
 
 int own_main(void);
+struct tried rattle_alloc(size_t size, size_t align);
+struct tried rattle_realloc(void *at, size_t kept, size_t size, size_t align);
+void rattle_dealloc(void *at);
 
 void hold(bool it, const char *what)
 {
@@ -296,6 +314,68 @@ void own__exit(int status)
     longjmp(leaving, status + 1);
 }
 
+/* A command of the program that succeeds leaves what it was about to its process's end. Here the process goes on, so what the program takes is noted, and freed when the command has ended. */
+
+static struct taken **place_of(const void *at)
+{
+    return &taken[(uintptr_t)at / 16 % PLACES];
+}
+
+static struct tried noted(struct tried tried)
+{
+    if (tried.ok) {
+        struct taken *it = malloc(sizeof *it);
+        if (!it)
+            abort();
+        pthread_mutex_lock(&taking);
+        struct taken **place = place_of(tried.at);
+        *it = (struct taken){ .at = tried.at, .next = *place };
+        *place = it;
+        pthread_mutex_unlock(&taking);
+    }
+    return tried;
+}
+
+static void forget(const void *at)
+{
+    pthread_mutex_lock(&taking);
+    struct taken **place = place_of(at);
+    while (*place && (*place)->at != at)
+        place = &(*place)->next;
+    struct taken *it = *place;
+    hold(it, "memory that is given back was taken");
+    *place = it->next;
+    pthread_mutex_unlock(&taking);
+    free(it);
+}
+
+struct tried own_rattle_alloc(size_t size, size_t align)
+{
+    return noted(rattle_alloc(size, align));
+}
+
+struct tried own_rattle_realloc(void *at, size_t kept, size_t size, size_t align)
+{
+    forget(at);
+    struct tried tried = rattle_realloc(at, kept, size, align);
+    if (!tried.ok)
+        noted((struct tried){ .ok = true, .at = at });
+    return noted(tried);
+}
+
+void own_rattle_dealloc(void *at)
+{
+    forget(at);
+    rattle_dealloc(at);
+}
+
+static void free_taken(void)
+{
+    for (size_t i = 0; i < PLACES; i++)
+        while (taken[i])
+            own_rattle_dealloc(taken[i]->at);
+}
+
 struct ended ran(const char *word, ...)
 {
     va_list rest;
@@ -312,6 +392,7 @@ struct ended ran(const char *word, ...)
     own_write(STDERR_FILENO, "", 0);
     int left = setjmp(leaving);
     struct ended ended = { .status = left ? left - 1 : own_main() };
+    free_taken();
     for (int i = 0; i < MOST_OPEN; i++)
         hold(!opened[i].file, "no file is left open");
     ended.out = streams[0].bytes;
