@@ -25,6 +25,7 @@ fn act_is_right(act: ActRef<'_>, entry: &Entry, blocks: &UnitBlocks) -> bool
 }
 
 /// Whether the part is the entry's act, and succeeds on these blocks.
+#[inline(always)]
 fn part_is_right(part: LentPart<'_>, entry: &Entry, blocks: &UnitBlocks) -> bool
     requires act { IsAct entry.now.operation.deed }
     requires covers { Covers blocks.now (part_operation_of part) }

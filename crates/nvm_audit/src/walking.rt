@@ -37,6 +37,7 @@ fn finding(u: &ShownUnit<'_, '_>, k: usize, blocks: &UnitBlocks) -> Finding
 }
 
 /// Judges the parts at a point, on its blocks, and puts down what is found of each.
+#[inline(always)]
 fn judge_at(
     u: &ShownUnit<'_, '_>,
     by_point: &ByPoint,

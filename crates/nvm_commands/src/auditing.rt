@@ -148,7 +148,9 @@ fn witnessed<R: AllocGlobal + Files + Input + Eprint + Threads + Sync>(
     check_apart(trace, record)?;
     let seen = read_as_trace(rt, trace, progress)?;
     let held = payload_of(rt, InputKind::File, record, progress)?;
-    witnessed_by(rt, judging, &seen, record, &held)
+    let witnessed = witnessed_by(rt, judging, &seen, record, &held);
+    forget(seen);
+    witnessed
 }
 
 /// What is answered of the trace by the record or the order in the bytes of a file that was read from a path. An order isn't judged strictly.

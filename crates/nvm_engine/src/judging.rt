@@ -35,27 +35,30 @@ pub fn audit_bytes(
     ensures named { (r : RecordView) (first : FaultOfRecord) → IsRecordFile bytes.now r → IsFirstFault r first
         → MatchResult result (λ judged. judged ≡ Err first) (λ fault. fault ≡ NoMemoryFault) }
 {
-    audit_bytes_watched(rt, alloc, bytes, &Unwatched)
+    let (judged, _) = audit_bytes_watched(rt, alloc, bytes, &Unwatched)?;
+    Ok(judged)
 }
 
-/// What [`audit_bytes`] returns. The watcher is notified how far the audit is.
+/// What [`audit_bytes`] returns, and the record, which a program that ends then needn't take apart. The watcher is notified how far the
+/// audit is.
 pub fn audit_bytes_watched<W: Watcher + Sync>(
     rt: &(impl Threads + Sync),
     alloc: Global,
     bytes: &Payload,
     watcher: &W,
-) -> Result<Judged, Fault>
-    ensures judged { IfOk result (IsJudged bytes.now) }
+) -> Result<(Judged, Record), Fault>
+    ensures judged { IfOk result (λ x. IsJudged bytes.now x.0) }
+    ensures read { IfOk result (λ x. record_at bytes.now ≡ Ok x.1) }
     ensures fault { IfErr result (IsUnreadFault bytes.now) }
     // A lawful record is found lawful, and of another one its first fault is named, unless memory was refused.
     ensures accepted { (r : RecordView) → IsRecordFile bytes.now r → IsLawfulRecord r
-        → MatchResult result (λ judged. (verdict : Numbers) × (judged ≡ Ok verdict)) (λ fault. fault ≡ NoMemoryFault) }
+        → MatchResult result (λ x. (verdict : Numbers) × (x.0 ≡ Ok verdict)) (λ fault. fault ≡ NoMemoryFault) }
     ensures named { (r : RecordView) (first : FaultOfRecord) → IsRecordFile bytes.now r → IsFirstFault r first
-        → MatchResult result (λ judged. judged ≡ Err first) (λ fault. fault ≡ NoMemoryFault) }
+        → MatchResult result (λ x. x.0 ≡ Err first) (λ fault. fault ≡ NoMemoryFault) }
 {
     let held = record_of(alloc, bytes)?;
     let judged = judge_watched(rt, alloc, &held, watcher)?;
-    Ok(judged)
+    Ok((judged, held))
 }
 
 /// The record that a file holds.

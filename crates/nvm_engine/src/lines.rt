@@ -46,6 +46,7 @@ pub(crate) fn write_job<W: Write>(
 }
 
 /// Writes the line of a host's next command, and what is under it in this form.
+#[inline(always)]
 fn write_command<W: Write>(
     writer: &mut W,
     form: Form,

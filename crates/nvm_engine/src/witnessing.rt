@@ -1,5 +1,6 @@
 ghost use Rattle.std.specs.Prelude.{◌≡◌, ◌⊎◌, Result, Ok, Err, IfOk, IfErr, MatchResult};
 ghost use Rattle.nvm_audit.specs.RecordView.{RecordView};
+ghost use Rattle.nvm_file.specs.Reading.{record_at};
 ghost use Rattle.nvm_file.specs.RecordFile.{IsRecordFile};
 ghost use Rattle.nvm_file.specs.TraceFile.{IsTraceFile};
 ghost use Rattle.nvm_file.specs.TraceReading.{trace_at};
@@ -19,7 +20,8 @@ use nvm_trace::{Judging, Trace, witness};
 use std::alloc::Global;
 use std::thread::Threads;
 
-/// Whether the record that a file holds explains the trace that another file holds: the numbers of the two, or the first fault.
+/// Whether the record that a file holds explains the trace that another file holds: the numbers of the two, or the first fault. The trace and
+/// the record are given, too: a program that ends then needn't take them apart.
 ///
 /// Where the bytes are no trace's file, or then no record's file, the first fault from the front is returned, with its offset.
 /// `NoMemory` is returned where a growth was refused: nothing is known then.
@@ -29,17 +31,19 @@ pub fn witness_bytes(
     judging: Judging,
     trace: &Payload,
     record: &Payload,
-) -> Result<Witnessed, Fault>
-    ensures witnessed { IfOk result (IsWitnessed judging trace.now «record».now) }
+) -> Result<(Witnessed, Trace, Record), Fault>
+    ensures witnessed { IfOk result (λ x. IsWitnessed judging trace.now «record».now x.0) }
+    ensures seen { IfOk result (λ x. trace_at trace.now ≡ Ok x.1) }
+    ensures held { IfOk result (λ x. record_at «record».now ≡ Ok x.2) }
     ensures fault { IfErr result (IsUnwitnessedFault trace.now «record».now) }
     // A record that explains the trace is found to do so, unless memory was refused.
     ensures accepted { (t : TraceView) (r : RecordView) → IsTraceFile trace.now t → IsRecordFile «record».now r → IsExplainedBy judging t r
-        → MatchResult result (λ witnessed. (numbers : Numbers) × (witnessed ≡ Ok numbers)) (λ fault. fault ≡ NoMemoryFault) }
+        → MatchResult result (λ x. (numbers : Numbers) × (x.0 ≡ Ok numbers)) (λ fault. fault ≡ NoMemoryFault) }
 {
-    let traced = trace_of(alloc, trace)?;
+    let seen = trace_of(alloc, trace)?;
     let held = record_of(alloc, record)?;
-    let witnessed = witness_record(rt, alloc, judging, &traced, &held)?;
-    Ok(witnessed)
+    let witnessed = witness_record(rt, alloc, judging, &seen, &held)?;
+    Ok((witnessed, seen, held))
 }
 
 /// The trace that a file holds.

@@ -101,7 +101,7 @@ by_kind (suc (suc (suc (suc zero)))) total place bytes x are low high e = fused_
 by_kind (suc (suc (suc (suc (suc zero))))) total place bytes x are low high e = deallocate_takes total place bytes x are e
 by_kind (suc (suc (suc (suc (suc (suc n)))))) total place bytes x are low high e = absurd (omega (arith, high))
 
-at_most_five : (version : Version) → last_kind version ≤ 5
+pub at_most_five : (version : Version) → last_kind version ≤ 5
 at_most_five One = omega arith
 at_most_five Two = omega arith
 

@@ -27,6 +27,7 @@ pub mod WholeCommandsAgain
 pub mod HeadsReturn
 pub mod JobsReturn
 pub mod EntriesReturn
+pub mod EntryEnds
 pub mod DoneReturn
 pub mod RecordsReturn
 pub mod SecondVerdict

@@ -57,27 +57,22 @@ fn act_of_kind<'a>(
     ensures { Gives (λ x. (operation_of x.0, left_of x.1)) result (operation_of_kind kind total place.now (left_of rest.entry)) }
 {
     match kind {
-        1 => write_of(alloc, total, place, rest),
+        1 => write_of(total, place, rest),
         2 => zeroes_of(total, place, rest),
         3 => uncorrectable_of(total, place, rest),
-        4 => fused_of(alloc, total, place, rest),
+        4 => fused_of(total, place, rest),
         _ => deallocate_of(alloc, total, place, rest),
     }
 }
 
 /// A Write: its range, then its blocks.
 #[tactic(auto, unfolding(crate::specs::EntryReading::write_at))]
-fn write_of<'a>(
-    alloc: Global,
-    total: usize,
-    place: &Place,
-    rest: Rest<'a>,
-) -> Result<(Act, Rest<'a>), RecordFault>
+fn write_of<'a>(total: usize, place: &Place, rest: Rest<'a>) -> Result<(Act, Rest<'a>), RecordFault>
     ensures { Gives (λ x. (operation_of x.0, left_of x.1)) result (write_at total place.now (left_of rest.entry)) }
 {
     let (range, rest) = range_of(total, place, rest)?;
     let count = range.blocks as usize * place.size.bytes() as usize;
-    let (payload, rest) = data_of(alloc, total, count, rest)?;
+    let (payload, rest) = data_of(total, count, rest)?;
     let act = Act::Write {
         first: range.first,
         blocks: range.blocks,
@@ -122,17 +117,12 @@ fn uncorrectable_of<'a>(
 
 /// A fused pair: its range, then the blocks of the Compare and those of the Write.
 #[tactic(auto, unfolding(crate::specs::EntryReading::fused_at, crate::specs::Fields::bytes_at))]
-fn fused_of<'a>(
-    alloc: Global,
-    total: usize,
-    place: &Place,
-    rest: Rest<'a>,
-) -> Result<(Act, Rest<'a>), RecordFault>
+fn fused_of<'a>(total: usize, place: &Place, rest: Rest<'a>) -> Result<(Act, Rest<'a>), RecordFault>
     ensures { Gives (λ x. (operation_of x.0, left_of x.1)) result (fused_at total place.now (left_of rest.entry)) }
 {
     let (range, rest) = range_of(total, place, rest)?;
     let count = range.blocks as usize * place.size.bytes() as usize;
-    let (both, rest) = data_of(alloc, total, 2 * count, rest)?;
+    let (both, rest) = data_of(total, 2 * count, rest)?;
     let compare = both.part(0, count)?;
     let write = both.part(count, both.len())?;
     let act = Act::Pair {

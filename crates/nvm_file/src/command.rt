@@ -19,9 +19,10 @@ use nvm_record::{BlockSize, Command, ENTRY_BYTES, EntryFields, Fuse, Op, entry_f
 /// The opcode of Dataset Management, which is an unknown one to the first version.
 const DATASET_MANAGEMENT: u8 = 0x09;
 
-/// A command: its entry, and then the data that it calls for, which is shared with the file. It has no count of owners of its own,
-/// since no thread shares it.
+/// A command: its entry, and then the data that it calls for, which is shared with the file and counted with it: no thread takes a share
+/// of it.
 #[tactic(auto, unfolding(crate::specs::CommandReading::command_at, crate::specs::Fields::bytes_at))]
+#[inline(always)]
 pub fn command_of<'a>(
     scope: &Scope,
     standing: Standing,

@@ -41,7 +41,8 @@ pub fn units_of<'a>(
     )
 }
 
-/// The history of a unit: how many entries it has, and each of them.
+/// The history of a unit: how many entries it has, and each of them. The data of its entries has a count of owners that no other unit
+/// uses, so threads that audit different units don't wait for each other. A unit without entries takes none.
 #[tactic(auto, unfolding(crate::specs::EntryReading::history_at))]
 fn history_of<'a>(
     alloc: Global,
@@ -53,8 +54,13 @@ fn history_of<'a>(
     ensures { Gives (λ x. (x.0.items, left_of x.1)) result (history_at frame.now unit (left_of rest.entry)) }
 {
     let (count, rest) = u32_in(frame.total, 0, frame.limit.entries(), rest)?;
+    if count == 0 {
+        return Ok((Vec::new(alloc), rest));
+    }
     let place = place_in(&frame.geometry, unit);
-    entries_of(alloc, frame, &place, count, rest)
+    let file = rest.own_share(alloc)?;
+    let (history, after) = entries_of(alloc, frame, &place, count, rest.in_share(&file))?;
+    Ok((history, rest.up_to(after)))
 }
 
 /// Where the unit lies.

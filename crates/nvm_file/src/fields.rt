@@ -8,7 +8,6 @@ use crate::record_fault::RecordFault;
 use crate::rest::Rest;
 use byteorder::{ByteOrder, LittleEndian};
 use nvm_record::Payload;
-use std::alloc::Global;
 
 /// The offset in the file at which what is left begins.
 pub fn offset_of(total: usize, rest: Rest<'_>) -> u64
@@ -148,7 +147,6 @@ pub fn u32_below(total: usize, end: u32, rest: Rest<'_>) -> Result<(u32, Rest<'_
 /// A run of so many bytes, shared with the file.
 #[tactic(auto, unfolding(crate::specs::Fields::bytes_at))]
 pub fn data_of(
-    alloc: Global,
     total: usize,
     count: usize,
     rest: Rest<'_>,
@@ -158,7 +156,7 @@ pub fn data_of(
     if rest.len() < count {
         return Err(cut_short(total, rest));
     }
-    let payload = rest.share(alloc, count)?;
+    let payload = rest.part(count)?;
     Ok((payload, rest.after(count)))
 }
 

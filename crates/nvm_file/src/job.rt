@@ -53,6 +53,7 @@ fn some_jobs_of<'a>(
 
 /// A job: the number of its host, its kind, and its command or commands.
 #[tactic(auto, unfolding(crate::specs::JobReading::job_at))]
+#[inline(always)]
 pub fn job_of<'a>(scope: &Scope, rest: Rest<'a>) -> Result<(Job, Rest<'a>), RecordFault>
     ensures { Gives (λ x. (x.0, left_of x.1)) result (job_at scope.now (left_of rest.entry)) }
 {

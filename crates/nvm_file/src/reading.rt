@@ -22,8 +22,9 @@ use std::alloc::Global;
 /// Reads a record file of either version, from its front. What is read is spelled just so, each byte of it, and the spelling of
 /// each record is read as just that record: see [`spellings_are_files`](crate::laws::spellings_are_files).
 ///
-/// The data of commands, of entries and of Reads are parts of the bytes. Memory is taken for the lists, never for more items
-/// than the bytes that follow could hold, whatever a count says.
+/// The data of commands, of entries and of Reads are parts of the bytes. Memory is taken for the lists, for a count of owners of each
+/// unit that has entries, and for the ranges of Deallocates, never for more items than the bytes that follow could hold, whatever a
+/// count says.
 ///
 /// The first fault from the front is answered, or `NoMemory` where a growth was refused before it, or 2^63 - 1 payloads
 /// shared the bytes.

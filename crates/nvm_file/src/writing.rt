@@ -26,7 +26,7 @@ use jobs::write_jobs;
 pub use traces::write_trace;
 
 /// Writes the record as a file of its version, piece by piece. It takes no memory of its own, however large the record is. Most
-/// pieces are of a few bytes, so hand it a [`BufWriter`](std::io::BufWriter) where each write costs. It doesn't flush.
+/// pieces are short, so hand it a [`BufWriter`](std::io::BufWriter) where each write costs. It doesn't flush.
 ///
 /// What was handed over whole is a file of the record, by [`spellings_are_files`]: it is read as just that record.
 ///

@@ -84,6 +84,7 @@ pub fn job_part_in<'a>(geometry: &Geometry, job: &'a Job, unit: u16) -> Option<L
 
 /// What [`job_part_in`] gives in a unit in which the job is known to have a part. It makes no plan, takes no memory, and a
 /// constant number of steps whatever the job is.
+#[inline(always)]
 pub fn job_part_there<'a>(geometry: &Geometry, job: &'a Job, unit: u16) -> LentPart<'a>
     requires fits { FitsNamespace geometry.now job.now }
     requires there { IsSome (spec.job_part_in geometry.now job.now unit) }
@@ -98,6 +99,7 @@ pub fn job_part_there<'a>(geometry: &Geometry, job: &'a Job, unit: u16) -> LentP
 }
 
 /// What [`job_part_there`] gives, on a namespace of any size, in the unit in which this LBA lies.
+#[inline(always)]
 pub fn part_at<'a>(geometry: &LargeGeometry, job: &'a Job, lba: u64) -> LentPart<'a>
     requires fits { FitsNamespace geometry.now job.now }
     requires known { lba < geometry.now.nsze }

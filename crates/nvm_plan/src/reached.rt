@@ -27,6 +27,7 @@ pub fn first_reached(geometry: &LargeGeometry, job: &Job) -> Option<u64>
 
 /// The lowest LBA that a job reaches behind the unit in which this LBA lies, where no check applies to the job: its next part is in that LBA's unit. It
 /// is `None` where the job has no part there. It takes no memory and a constant number of steps, and for a Dataset Management a walk over its ranges.
+#[inline(always)]
 pub fn next_reached(geometry: &LargeGeometry, job: &Job, lba: u64) -> Option<u64>
     requires free { refusal_of geometry.now job.now ≡ None }
     requires known { lba < geometry.now.nsze }

@@ -82,6 +82,7 @@ pub fn job_part_count(geometry: &Geometry, job: &Job) -> u16
 
 /// In how many units a job has a part, where no check applies to the job: what [`job_part_count`] gives. It makes no plan, takes no memory,
 /// and costs as many steps.
+#[inline(always)]
 pub fn ready_part_count(geometry: &Geometry, job: &Job) -> u16
     requires { refusal_of geometry.now job.now ≡ None }
     ensures value { result ≡ length (spec.job_units geometry.now job.now) }
@@ -110,6 +111,7 @@ impl<'a> Iterator for JobUnits<'a> {
 
     ghost remaining = { item_count (λ units. units) };
 
+    #[inline(always)]
     fn next(&mut self) -> Option<u16> {
         let lba = self.next?;
         self.next = next_reached(&self.geometry.large(), self.job, lba);

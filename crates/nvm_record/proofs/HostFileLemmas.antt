@@ -36,14 +36,6 @@ pub record IsReading (size : ℕ) (bytes : List ℕ) (cs : List Command) (rest :
   pub name : take 4 bytes ≡ file_name
   pub whole : All (IsWhole size) cs
 
--- What is left is no longer than the whole.
-pub begins_shorter : (size : ℕ) (bytes : List ℕ) (cs : List Command) (rest : List ℕ) → BeginsWithAll size bytes cs rest → length rest ≤ length bytes
-begins_shorter size bytes [] rest h = let e : length bytes ≡ length rest = ap length h in omega arith
-begins_shorter size bytes (c ∷ cs) rest h =
-    let less : length rest ≤ length h.0 = begins_shorter size h.0 cs rest h.2 in
-    let e : length bytes ≡ length (h.1.0 ++ h.0) = ap length h.1.1 in
-    omega (arith, length-append h.1.0 h.0)
-
 -- One command more.
 pub begins_more : (size : ℕ) (bytes : List ℕ) (cs : List Command) (rest : List ℕ) (c : Command) (after : List ℕ) → BeginsWithAll size bytes cs rest → BeginsWith size rest c after → BeginsWithAll size bytes (cs ++ c ∷ []) after
 begins_more size bytes [] rest c after h k = (after, subst (λ (b : List ℕ). BeginsWith size b c after) (sym h) k, refl)
@@ -56,10 +48,6 @@ reading_more size bytes cs rest c after few h k whole = record {
   name = h.name;
   whole = All-append (IsWhole size) cs (c ∷ []) h.whole (All-from_recursion (IsWhole size) (c ∷ []) (whole, tt));
 }
-
--- What is left of a file is no longer than the file.
-pub reading_shorter : (size : ℕ) (bytes : List ℕ) (cs : List Command) (rest : List ℕ) → IsReading size bytes cs rest → length rest ≤ length bytes
-reading_shorter size bytes cs rest h = omega (arith, begins_shorter size (drop 4 bytes) cs rest h.commands, length-drop 4 bytes)
 
 -- What isn't whole there is the file's first fault.
 pub reading_fault : (size : ℕ) (bytes : List ℕ) (cs : List Command) (rest : List ℕ) (offset : ℕ) (f : HostFault) → length cs < 65536 → IsReading size bytes cs rest → offset + length rest ≡ length bytes → IsCutFault size rest offset f → IsAnsweredFault size bytes f

@@ -1,4 +1,4 @@
-ghost use Rattle.std.specs.Prelude.{◌≡◌, ◌⊎◌, ◌+◌, ◌^◌, ◌<◌, ◌≤◌, All, ℕ, List, IfOk, IfErr, MatchResult, length};
+ghost use Rattle.std.specs.Prelude.{◌≡◌, ◌⊎◌, ◌<◌, ◌≤◌, All, ℕ, List, IfOk, IfErr, MatchResult, drop, length};
 ghost use Rattle.nvm_record.specs.Entry.{BeginsWith, IsWhole};
 ghost use Rattle.nvm_record.specs.HostFile.{IsHostFile, IsHostFileFault, IsAnsweredFault, IsCutFault, file_of, most_commands};
 ghost use Rattle.nvm_record.specs.declared.command.Command.{Command as Spelled};
@@ -12,11 +12,15 @@ use crate::command_fault::CommandFault;
 use crate::entry::ENTRY_BYTES;
 use crate::host_fault::HostFault;
 use crate::payload::Payload;
-use crate::spelling::{push_spelling, read_command};
+use crate::spelling::{push_spelling, read_command_at};
 use std::alloc::Global;
 
 /// A host file begins with these bytes.
 const NAME: &[u8; 4] = b"NVQ1";
+
+/// How many counts of owners the data of a file's commands uses in turn: command `n` has that of `n % OWNER_COUNTS`. So threads that do
+/// neighboring commands change different counts, and a file takes few small blocks of memory.
+const OWNER_COUNTS: usize = 64;
 
 /// The most commands of a host file.
 pub const MOST_COMMANDS: usize = 65_536;
@@ -26,8 +30,8 @@ pub const MOST_COMMANDS: usize = 65_536;
 /// of `size`, or, after that of a Dataset Management, its `nr + 1` ranges of 16 bytes.
 ///
 /// The commands' data are parts of the bytes, but for ranges, which are copied with context attributes of
-/// 0. Memory is taken for them, for the list of the commands, and for the count of owners that the data of each
-/// has for itself.
+/// 0. Memory is taken for them, for the list of the commands, and for at most 64 counts of owners, which the commands use in
+/// turn.
 ///
 /// The first fault from the front is answered, or `NoMemory` where a growth was refused before it, or
 /// 2^63 - 1 payloads shared the bytes.
@@ -57,38 +61,70 @@ fn commands_of(alloc: Global, bytes: &Payload, size: BlockSize) -> Result<Vec<Co
         return Err(HostFault::BadName);
     }
     let length = bytes.len();
-    let mut rest = bytes.part(NAME.len(), length)?;
+    let mut shares = Vec::with_capacity(alloc, OWNER_COUNTS)?;
     let mut commands = Vec::new(alloc);
-    while !rest.is_empty() {
+    let mut from = NAME.len();
+    while from < length {
         if commands.len() == MOST_COMMANDS {
             return Err(HostFault::TooMany);
         }
-        let (command, after) = next_command(alloc, &rest, size, length - rest.len())?;
+        let place = commands.len() % OWNER_COUNTS;
+        add_share(alloc, bytes, &mut shares, place)?;
+        let share = share_at(bytes, &shares, place);
+        let (command, end) = next_command(alloc, share, from, size)?;
         commands.push(command)?;
-        rest = after;
+        from = end;
     }
     Ok(commands)
 }
 
-/// Reads the command at the front of `rest`, which is at `offset` of its file, and gives what
-/// follows it.
+/// Adds a share of the file with a count of owners of its own, where there is none yet at this place.
+fn add_share(
+    alloc: Global,
+    bytes: &Payload,
+    shares: &mut Vec<Payload>,
+    place: usize,
+) -> Result<(), NoMemory>
+    requires { All (λ share. share ≡ bytes.now) shares.old.items }
+    ensures { All (λ share. share ≡ bytes.now) shares.new.items }
+{
+    if place == shares.len() {
+        shares.push(bytes.own_part(alloc, 0, bytes.len())?)?;
+    }
+    Ok(())
+}
+
+/// The share at this place, or the file itself where there is none.
+fn share_at<'a>(bytes: &'a Payload, shares: &'a Vec<Payload>, place: usize) -> &'a Payload
+    requires { All (λ share. share ≡ bytes.now) shares.now.items }
+    ensures { result.now ≡ bytes.now }
+{
+    match shares.get(place) {
+        Some(share) => share,
+        None => bytes,
+    }
+}
+
+/// Reads the command that begins at place `from`, and gives the place where it ends.
 fn next_command(
     alloc: Global,
-    rest: &Payload,
+    bytes: &Payload,
+    from: usize,
     size: BlockSize,
-    offset: usize,
-) -> Result<(Command, Payload), HostFault>
-    requires some { 0 < length rest.now }
-    requires in_file { offset + length rest.now < 2 ^ 64 }
-    ensures command { IfOk result (λ read. BeginsWith size rest.now read.0 read.1) }
+) -> Result<(Command, usize), HostFault>
+    requires some { from < length bytes.now }
+    ensures command { IfOk result (λ read. BeginsWith size (drop from bytes.now) read.0 (drop read.1 bytes.now)) }
+    ensures end { IfOk result (λ read. (from < read.1) × (read.1 ≤ length bytes.now)) }
     ensures whole { IfOk result (λ read. IsWhole size read.0) }
-    ensures fault { IfErr result (IsCutFault size rest.now offset) }
+    ensures fault { IfErr result (IsCutFault size (drop from bytes.now) from) }
 {
-    match read_command(alloc, rest, size) {
+    // For the proof alone: a length fits, so each place up to it does.
+    let _length = bytes.len();
+    match read_command_at(alloc, bytes, from, size) {
         Ok(read) => Ok(read),
-        Err(CommandFault::CutEntry) => Err(HostFault::Truncated { at: offset as u64 }),
+        Err(CommandFault::CutEntry) => Err(HostFault::Truncated { at: from as u64 }),
         Err(CommandFault::CutData) => Err(HostFault::Truncated {
-            at: (offset + ENTRY_BYTES) as u64,
+            at: (from + ENTRY_BYTES) as u64,
         }),
         Err(CommandFault::NoMemory) => Err(HostFault::NoMemory),
     }

@@ -1,4 +1,4 @@
-ghost use Rattle.std.specs.Prelude.{◌≡◌, ◌≤◌, ◌++◌, ℕ, IfOk, IfErr, OnOk, OnErr, length, slice_range};
+ghost use Rattle.std.specs.Prelude.{◌≡◌, ◌<◌, ◌≤◌, ◌++◌, ℕ, IfOk, IfErr, OnOk, OnErr, drop, length, slice_range};
 ghost use Rattle.nvm_record.specs.Entry.{BeginsWith, IsCommandFault, IsSpelling, IsWhole, data_kept, spelling_of};
 ghost use Rattle.nvm_record.specs.Ranges.{ranges_of};
 
@@ -17,10 +17,10 @@ use std::alloc::Global;
 /// `nr + 1` ranges of 16 bytes. What follows is given back.
 ///
 /// The data and what follows are parts of the bytes, so nothing is copied, but for ranges: they are copied,
-/// with context attributes of 0. Data takes one small block of memory, for a count of owners of its own.
+/// with context attributes of 0.
 ///
-/// The first fault is answered, or `NoMemory` where memory for ranges or for that count is refused, or
-/// 2^63 - 1 payloads share the bytes already.
+/// The first fault is answered, or `NoMemory` where memory for ranges is refused, or 2^63 - 1 payloads share the
+/// bytes already.
 pub fn read_command(
     alloc: Global,
     bytes: &Payload,
@@ -30,18 +30,36 @@ pub fn read_command(
     ensures whole { IfOk result (λ read. IsWhole size read.0) }
     ensures fault { IfErr result (IsCommandFault size bytes.now) }
 {
-    if bytes.len() < ENTRY_BYTES {
+    let (command, end) = read_command_at(alloc, bytes, 0, size)?;
+    let rest = bytes.part(end, bytes.len())?;
+    Ok((command, rest))
+}
+
+/// Reads the command that begins at place `from`, as [`read_command`] does at the front, and gives the place where it ends.
+pub(crate) fn read_command_at(
+    alloc: Global,
+    bytes: &Payload,
+    from: usize,
+    size: BlockSize,
+) -> Result<(Command, usize), CommandFault>
+    requires { from ≤ length bytes.now }
+    ensures command { IfOk result (λ read. BeginsWith size (drop from bytes.now) read.0 (drop read.1 bytes.now)) }
+    ensures end { IfOk result (λ read. (from < read.1) × (read.1 ≤ length bytes.now)) }
+    ensures whole { IfOk result (λ read. IsWhole size read.0) }
+    ensures fault { IfErr result (IsCommandFault size (drop from bytes.now)) }
+{
+    let left = &bytes.as_slice()[from..];
+    if left.len() < ENTRY_BYTES {
         return Err(CommandFault::CutEntry);
     }
-    let (entry, after) = bytes.as_slice().split_at(ENTRY_BYTES);
+    let (entry, after) = left.split_at(ENTRY_BYTES);
     let fields = entry_fields(entry);
     let wanted = fields.op.data_length(fields.nlb, fields.nr, size);
     if after.len() < wanted {
         return Err(CommandFault::CutData);
     }
-    let end = ENTRY_BYTES + wanted;
-    let payload = kept(alloc, fields.op, bytes, ENTRY_BYTES, end)?;
-    let rest = bytes.part(end, bytes.len())?;
+    let end = from + ENTRY_BYTES + wanted;
+    let payload = kept(alloc, fields.op, bytes, from + ENTRY_BYTES, end)?;
     let command = Command {
         cid: fields.cid,
         nsid: fields.nsid,
@@ -51,7 +69,7 @@ pub fn read_command(
         nlb: fields.nlb,
         payload,
     };
-    Ok((command, rest))
+    Ok((command, end))
 }
 
 /// What a command keeps of its data, which goes from place `from` up to place `to`: all of it, but for the
@@ -65,7 +83,7 @@ fn kept(alloc: Global, op: Op, bytes: &Payload, from: usize, to: usize) -> Resul
     if op.carries_ranges() {
         without_attributes(alloc, &bytes.as_slice()[from..to])
     } else {
-        bytes.own_part(alloc, from, to)
+        bytes.part(from, to)
     }
 }
 

@@ -24,6 +24,7 @@ impl JobDone {
     ghost use Rattle.nvm_space.specs.Inside.Parts.{job_ended};
 
     /// A job that ended with these statuses and this data after these parts.
+    #[inline(always)]
     pub(crate) fn of(
         job: &Job,
         statuses: Statuses,
@@ -40,6 +41,7 @@ impl JobDone {
     }
 
     /// A job whose parts were all done with success, where `bytes` are what they read.
+    #[inline(always)]
     pub(crate) fn of_success(job: &Job, bytes: Vec<u8>, parts: Vec<Part>) -> JobDone
         ensures { (ns : Namespace) (op : Operation) → job_operation_of ns job.now ≡ Some op
             → job_ended job.now (success_of op.deed) (answered op.deed bytes.items) parts.items result }

@@ -16,6 +16,7 @@ use nvm_evidence::{is_evidence, witness_order_bytes};
 use nvm_record::Payload;
 use nvm_trace::Judging;
 use std::alloc::Global;
+use std::mem::forget;
 use std::rt::Files;
 use std::thread::Threads;
 
@@ -42,7 +43,10 @@ fn judged_of<R: AllocGlobal + Eprint + Threads + Sync>(
     ensures fault { IfErr result (λ failure. IsAuditFault bytes.now failure.fault) }
 {
     match audit_bytes_watched(rt, rt.alloc(), bytes, progress) {
-        Ok(judged) => Ok(judged),
+        Ok((judged, run)) => {
+            forget(run);
+            Ok(judged)
+        }
         Err(fault) => Err(plain(Fault::Engine(fault))),
     }
 }
@@ -100,7 +104,11 @@ fn by_record<R: AllocGlobal + Threads + Sync>(
     ensures fault { IfErr result (λ failure. IsWitnessFault seen.now held.now failure.fault) }
 {
     match witness_bytes(rt, rt.alloc(), judging, seen, held) {
-        Ok(witnessed) => Ok(Answer::Witnessed(witnessed)),
+        Ok((witnessed, traced, run)) => {
+            forget(traced);
+            forget(run);
+            Ok(Answer::Witnessed(witnessed))
+        }
         Err(fault) => Err(plain(Fault::Engine(fault))),
     }
 }

@@ -1,5 +1,5 @@
 ghost use Rattle.std.specs.Prelude.{◌≡◌, ◌≤◌, IfOk, drop, length, take};
-ghost use Rattle.nvm_file.specs.Inside.Rest.{left_of};
+ghost use Rattle.nvm_file.specs.Inside.Rest.{EndsWith, left_of};
 
 use super::Rest;
 use nvm_record::{NoMemory, Payload};
@@ -69,13 +69,32 @@ impl<'a> Rest<'a> {
         self.file.part(self.from, self.from + count)
     }
 
-    /// The next `count` bytes, shared, with a count of owners of their own.
-    #[tactic(auto, unfolding(crate::specs::Inside::Rest::left_of))]
-    pub fn share(self, alloc: Global, count: usize) -> Result<Payload, NoMemory>
-        requires { count ≤ length (left_of self) }
-        ensures { IfOk result (λ p. p ≡ take count (left_of self.entry)) }
+    /// The whole file, shared, with a count of owners of its own. It takes one small block of memory.
+    pub fn own_share(self, alloc: Global) -> Result<Payload, NoMemory>
+        ensures { IfOk result (λ p. p ≡ self.entry.file.now) }
     {
-        let _length = self.file.len();
-        self.file.own_part(alloc, self.from, self.from + count)
+        self.file.own_part(alloc, 0, self.file.len())
+    }
+
+    /// The same place, in another share of the file.
+    #[tactic(auto, unfolding(crate::specs::Inside::Rest::left_of))]
+    pub fn in_share<'b>(self, file: &'b Payload) -> Rest<'b>
+        requires { file.now ≡ self.file.now }
+        ensures { left_of result ≡ left_of self.entry }
+    {
+        let left = &file.as_slice()[self.from..];
+        Rest {
+            file,
+            from: self.from,
+            left,
+        }
+    }
+
+    /// What is left of this file where `end` stands, which may be of another share: as many bytes as `end` has.
+    pub fn up_to(self, end: Rest<'_>) -> Rest<'a>
+        requires { EndsWith (left_of self) (left_of end) }
+        ensures { left_of result ≡ left_of end.entry }
+    {
+        self.after(self.len() - end.len())
     }
 }

@@ -1,6 +1,8 @@
-ghost use Rattle.std.specs.Prelude.{◌≡◌, All, OnErr, OnOk, map};
+ghost use Rattle.std.specs.Prelude.{◌≡◌, ◌∷◌, [], ◌++◌, All, OnErr, OnOk, map};
 ghost use Rattle.std.specs.Io.KnownBytes.{Appends};
 ghost use Rattle.std.specs.List.{flat_map};
+ghost use Rattle.byteorder.specs.Endian.{little_bytes};
+ghost use Rattle.nvm_record.specs.declared.status.Statuses.TheVariants.{One};
 ghost use Rattle.nvm_text.specs.Handed.{TakesFront};
 ghost use Rattle.nvm_file.specs.Fits.{DoneFits, PartFits, StatusesFit};
 ghost use Rattle.nvm_file.specs.Inside.Short.{IsShortDone, IsShortWork};
@@ -11,7 +13,7 @@ use super::bytes::count_bytes;
 use byteorder::{ByteOrder, LittleEndian};
 use nvm_audit::DoneJob;
 use nvm_plan::{Part, PartResult};
-use nvm_record::{ReadData, Statuses};
+use nvm_record::{ReadData, Status, Statuses};
 use nvm_text::hand;
 use std::io;
 use std::io::Write;
@@ -51,10 +53,55 @@ fn write_done<W: Write>(writer: &mut W, done: &DoneJob) -> io::Result<()>
     ensures front { OnErr result (TakesFront (W.contents writer.old) (W.contents writer.new) (done_bytes done.now)) }
     ensures fits { OnOk result (DoneFits done.now) }
 {
+    if let Statuses::One(status) = done.statuses {
+        if done.parts.len() == 1 {
+            return write_one_part(writer, done.job, done.parts[0], status, &done.payload);
+        }
+    }
     hand(writer, &done_front(done))?;
     write_parts(writer, &done.parts)?;
     write_statuses(writer, done.statuses)?;
     write_payload(writer, &done.payload)
+}
+
+/// Writes a done job of one command and one part, as most are. All before the data is handed over at once.
+fn write_one_part<W: Write>(
+    writer: &mut W,
+    job: u32,
+    part: Part,
+    status: Status,
+    payload: &Option<ReadData>,
+) -> io::Result<()>
+    ensures whole { OnOk result (Appends (W.contents writer.old) (W.contents writer.new)
+        (done_bytes (record { job = job; parts = part ∷ []; statuses = One status; payload = payload.now }))) }
+    ensures front { OnErr result (TakesFront (W.contents writer.old) (W.contents writer.new)
+        (done_bytes (record { job = job; parts = part ∷ []; statuses = One status; payload = payload.now }))) }
+    ensures fits { OnOk result (DoneFits (record { job = job; parts = part ∷ []; statuses = One status; payload = payload.now })) }
+{
+    match payload {
+        None => hand(writer, &one_part_front(job, part, status, 0)),
+        Some(payload) => {
+            hand(writer, &one_part_front(job, part, status, 1))?;
+            hand(writer, payload.as_slice())
+        }
+    }
+}
+
+/// What stands before the data: the job's number, a count of one part, the part, the status, and a flag, which is 1 where data follows.
+fn one_part_front(job: u32, part: Part, status: Status, flag: u8) -> [u8; 16]
+    ensures bytes { result ≡ little_bytes 4 job ++ (little_bytes 2 1 ++ (spec.part_bytes part ++ (status.sct ∷ status.sc ∷ flag ∷ []))) }
+    ensures fits { PartFits part }
+{
+    let mut piece = [0; 16];
+    LittleEndian::write_u32(&mut piece, job);
+    LittleEndian::write_u16(&mut piece[4..], 1);
+    LittleEndian::write_u16(&mut piece[6..], part.unit);
+    LittleEndian::write_u32(&mut piece[8..], part.point);
+    piece[12] = result_code(part.result);
+    piece[13] = status.sct;
+    piece[14] = status.sc;
+    piece[15] = flag;
+    piece
 }
 
 /// The job's number, and how many parts there are.

@@ -1,4 +1,4 @@
-ghost use Rattle.std.specs.Prelude.{◌≡◌, ◌++◌, ◌≤◌, All, OnErr, OnOk, map};
+ghost use Rattle.std.specs.Prelude.{◌≡◌, ◌∷◌, [], ◌++◌, ◌≤◌, All, OnErr, OnOk, map};
 ghost use Rattle.std.specs.Io.KnownBytes.{Appends};
 ghost use Rattle.std.specs.List.{flat_map};
 ghost use Rattle.byteorder.specs.Endian.{little_bytes};
@@ -7,7 +7,7 @@ ghost use Rattle.nvm_record.specs.Ranges as ranges;
 ghost use Rattle.nvm_store.specs.Act.{operation_of};
 ghost use Rattle.nvm_text.specs.Handed.{TakesFront};
 ghost use Rattle.nvm_file.specs.EntrySpelling as spec;
-ghost use Rattle.nvm_file.specs.EntrySpelling.{change_bytes, cut_bytes, entry_bytes, history_bytes, kind_of};
+ghost use Rattle.nvm_file.specs.EntrySpelling.{cut_bytes, entry_bytes, history_bytes, kind_of};
 ghost use Rattle.nvm_file.specs.Inside.Short.{IsShortDeed, IsShortHistory};
 
 use super::bytes::{count_bytes, two_bytes};
@@ -50,19 +50,7 @@ fn write_entry<W: Write>(writer: &mut W, entry: &Entry) -> io::Result<()>
     ensures whole { OnOk result (Appends (W.contents writer.old) (W.contents writer.new) (entry_bytes entry.now)) }
     ensures front { OnErr result (TakesFront (W.contents writer.old) (W.contents writer.new) (entry_bytes entry.now)) }
 {
-    hand(writer, &entry_front(entry))?;
-    write_act(writer, &entry.act)
-}
-
-/// The numbers of the pass and of the job, and the kind.
-fn entry_front(entry: &Entry) -> [u8; 7]
-    ensures { result ≡ spec.entry_front entry.now }
-{
-    let mut front = [0; 7];
-    LittleEndian::write_u16(&mut front, entry.pass);
-    LittleEndian::write_u32(&mut front[2..], entry.job);
-    front[6] = kind(&entry.act);
-    front
+    write_act(writer, entry.pass, entry.job, &entry.act)
 }
 
 /// The kind of the entry that has the act.
@@ -78,25 +66,26 @@ fn kind(act: &Act) -> u8
     }
 }
 
-/// Writes what stands behind the kind.
-fn write_act<W: Write>(writer: &mut W, act: &Act) -> io::Result<()>
+/// Writes an entry by its numbers and what was done. The numbers, the kind and, but for a Deallocate, the range are handed over at once.
+fn write_act<W: Write>(writer: &mut W, pass: u16, job: u32, act: &Act) -> io::Result<()>
     requires { IsShortDeed (operation_of act.now).deed }
     ensures whole { OnOk result (Appends (W.contents writer.old) (W.contents writer.new)
-        (change_bytes (operation_of act.now).first (operation_of act.now).blocks (operation_of act.now).deed)) }
+        (entry_bytes (record { pass = pass; job = job; operation = operation_of act.now }))) }
     ensures front { OnErr result (TakesFront (W.contents writer.old) (W.contents writer.new)
-        (change_bytes (operation_of act.now).first (operation_of act.now).blocks (operation_of act.now).deed)) }
+        (entry_bytes (record { pass = pass; job = job; operation = operation_of act.now }))) }
 {
+    let kind = kind(act);
     match act {
         Act::Write {
             first,
             blocks,
             payload,
         } => {
-            hand(writer, &extent_bytes(*first, *blocks))?;
+            hand(writer, &extent_front(pass, job, kind, *first, *blocks))?;
             hand(writer, payload.as_slice())
         }
         Act::Zeroes { first, blocks } | Act::Uncorrectable { first, blocks } => {
-            hand(writer, &extent_bytes(*first, *blocks))
+            hand(writer, &extent_front(pass, job, kind, *first, *blocks))
         }
         Act::Pair {
             first,
@@ -104,12 +93,39 @@ fn write_act<W: Write>(writer: &mut W, act: &Act) -> io::Result<()>
             compare,
             write,
         } => {
-            hand(writer, &extent_bytes(*first, *blocks))?;
+            hand(writer, &extent_front(pass, job, kind, *first, *blocks))?;
             hand(writer, compare.as_slice())?;
             hand(writer, write.as_slice())
         }
-        Act::Deallocate { ranges, .. } => write_ranges(writer, ranges.as_slice()),
+        Act::Deallocate { ranges, .. } => {
+            hand(writer, &entry_front(pass, job, kind))?;
+            write_ranges(writer, ranges.as_slice())
+        }
     }
+}
+
+/// The numbers of the pass and of the job, and the kind.
+fn entry_front(pass: u16, job: u32, kind: u8) -> [u8; 7]
+    ensures { result ≡ little_bytes 2 pass ++ (little_bytes 4 job ++ (kind ∷ [])) }
+{
+    let mut front = [0; 7];
+    LittleEndian::write_u16(&mut front, pass);
+    LittleEndian::write_u32(&mut front[2..], job);
+    front[6] = kind;
+    front
+}
+
+/// The same, and then a first LBA and a number of blocks.
+fn extent_front(pass: u16, job: u32, kind: u8, first: u64, blocks: u32) -> [u8; 19]
+    ensures { result ≡ little_bytes 2 pass ++ (little_bytes 4 job ++ (kind ∷ spec.extent_bytes first blocks)) }
+{
+    let mut front = [0; 19];
+    LittleEndian::write_u16(&mut front, pass);
+    LittleEndian::write_u32(&mut front[2..], job);
+    front[6] = kind;
+    LittleEndian::write_u64(&mut front[7..], first);
+    LittleEndian::write_u32(&mut front[15..], blocks);
+    front
 }
 
 /// A first LBA, and a number of blocks.

@@ -1,11 +1,11 @@
-ghost use Rattle.std.specs.Prelude.{◌≡◌, ◌<◌, ◌^◌, All, OnErr, OnOk, length};
+ghost use Rattle.std.specs.Prelude.{◌≡◌, ◌∷◌, ◌++◌, ◌<◌, ◌^◌, All, OnErr, OnOk, length};
 ghost use Rattle.std.specs.Io.KnownBytes.{Appends};
-ghost use Rattle.nvm_record.specs.Entry.{HasFieldsInRange, spelling_of};
+ghost use Rattle.byteorder.specs.Endian.{little_bytes};
+ghost use Rattle.nvm_record.specs.Entry.{HasFieldsInRange, entry_of, spelling_of};
 ghost use Rattle.nvm_text.specs.Handed.{TakesFront};
 ghost use Rattle.nvm_file.specs.Counted.{counted};
-ghost use Rattle.nvm_file.specs.Fits.{BodyFits, JobFits};
-ghost use Rattle.nvm_file.specs.JobSpelling as spec;
-ghost use Rattle.nvm_file.specs.JobSpelling.{body_kind, commands_bytes, job_bytes};
+ghost use Rattle.nvm_file.specs.Fits.{JobFits};
+ghost use Rattle.nvm_file.specs.JobSpelling.{job_bytes};
 
 use super::bytes::count_bytes;
 use byteorder::{ByteOrder, LittleEndian};
@@ -35,41 +35,39 @@ pub fn write_job<W: Write>(writer: &mut W, job: &Job) -> io::Result<()>
     ensures front { OnErr result (TakesFront (W.contents writer.old) (W.contents writer.new) (job_bytes job.now)) }
     ensures fits { OnOk result (JobFits job.now) }
 {
-    hand(writer, &job_front(job))?;
-    write_commands(writer, &job.body)
-}
-
-/// The number of the host, and whether the job is a pair.
-fn job_front(job: &Job) -> [u8; 3]
-    ensures { result ≡ spec.job_front job.now }
-{
-    let mut front = [0; 3];
-    LittleEndian::write_u16(&mut front, job.host);
-    front[2] = kind(&job.body);
-    front
-}
-
-fn kind(body: &Body) -> u8
-    ensures { result ≡ body_kind body.now }
-{
-    match body {
-        Body::Single(_) => 0,
-        Body::Pair(..) => 1,
-    }
-}
-
-fn write_commands<W: Write>(writer: &mut W, body: &Body) -> io::Result<()>
-    ensures whole { OnOk result (Appends (W.contents writer.old) (W.contents writer.new) (commands_bytes body.now)) }
-    ensures front { OnErr result (TakesFront (W.contents writer.old) (W.contents writer.new) (commands_bytes body.now)) }
-    ensures fits { OnOk result (BodyFits body.now) }
-{
-    match body {
-        Body::Single(command) => write_command(writer, command),
+    match &job.body {
+        Body::Single(command) => write_first(writer, job.host, 0, command),
         Body::Pair(first, second) => {
-            write_command(writer, first)?;
+            write_first(writer, job.host, 1, first)?;
             write_command(writer, second)
         }
     }
+}
+
+/// Writes what a job begins with: the number of its host, its kind, which is 0 for a command by itself and 1 for a pair, and its first command.
+/// All before the command's data is handed over at once.
+#[inline(always)]
+fn write_first<W: Write>(writer: &mut W, host: u16, kind: u8, command: &Command) -> io::Result<()>
+    ensures whole { OnOk result (Appends (W.contents writer.old) (W.contents writer.new)
+        (little_bytes 2 host ++ (kind ∷ spelling_of command.now))) }
+    ensures front { OnErr result (TakesFront (W.contents writer.old) (W.contents writer.new)
+        (little_bytes 2 host ++ (kind ∷ spelling_of command.now))) }
+    ensures fits { HasFieldsInRange command.now }
+{
+    hand(writer, &first_piece(host, kind, command))?;
+    hand(writer, command.payload.as_slice())
+}
+
+/// The number of the host, the kind, and the command's submission entry.
+fn first_piece(host: u16, kind: u8, command: &Command) -> [u8; 67]
+    ensures bytes { result ≡ little_bytes 2 host ++ (kind ∷ entry_of command.now) }
+    ensures fits { HasFieldsInRange command.now }
+{
+    let mut piece = [0; 67];
+    LittleEndian::write_u16(&mut piece, host);
+    piece[2] = kind;
+    piece[3..].copy_from_slice(&command_bytes(command));
+    piece
 }
 
 /// Writes a command's submission entry, and its data.

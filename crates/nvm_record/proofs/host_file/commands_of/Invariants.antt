@@ -1,9 +1,12 @@
-use Rattle.std.proofs.Common.{length}
+use Rattle.std.proofs.Common.{◌≡◌, ◌≤◌, ◌-◌, All, drop, length}
 use Rattle.nvm_record.proofs.HostFileLemmas.{IsReading}
 use Rattle.nvm_record.proofs.host_file.commands_of.Given as goal
 
-abbrev pub invariant-loop-alloc : goal.invariant-loop-alloc
-invariant-loop-alloc l = IsReading l.size l.bytes l.commands.items l.rest
+abbrev pub invariant-loop-from : goal.invariant-loop-from
+invariant-loop-from l =
+    IsReading l.size l.bytes l.commands.items (drop l.from l.bytes)
+    × (l.from ≤ length l.bytes)
+    × All (λ share. share ≡ l.bytes) l.shares.items
 
-abbrev pub decreases-loop-alloc : goal.decreases-loop-alloc
-decreases-loop-alloc l = length l.rest
+abbrev pub decreases-loop-from : goal.decreases-loop-from
+decreases-loop-from l = length l.bytes - l.from

@@ -1,9 +1,32 @@
-use Rattle.std.proofs.Common.{◌++◌, ◌∙◌, ap, subst}
+use Rattle.std.proofs.Common.{◌≡◌, List, [], ◌∷◌, ◌++◌, length, get_or, ◌∙◌, refl, ap, sym, subst, arith}
+use Rattle.std.specs.Io.KnownBytes.{Appends}
 use Rattle.std.specs.List.{flat_map}
+use Rattle.nvm_record.specs.declared.status.Statuses.{Statuses}
+use Rattle.nvm_record.specs.declared.status.Statuses.TheVariants.{One}
+use Rattle.nvm_plan.specs.declared.part.Part.{Part}
+use Rattle.nvm_audit.specs.RecordedJob.{RecordedJob}
 use Rattle.nvm_text.specs.Handed.{TakesFront}
-use Rattle.nvm_text.proofs.Taking.{within, behind, first_of, on_err, on_err_then}
-use Rattle.nvm_file.specs.WorkSpelling.{done_front, part_bytes, payload_bytes, statuses_bytes}
+use Rattle.nvm_text.proofs.Taking.{within, behind, first_of, on_err, on_err_then, on_ok_then}
+use Rattle.nvm_file.specs.WorkSpelling.{done_bytes, done_front, part_bytes, payload_bytes, statuses_bytes}
 use Rattle.nvm_file.proofs.writing.done_jobs.write_done.Goals as goal
+
+sole : (parts : List Part) (part : Part) → length parts ≡ 1 → get_or parts 0 part ∷ [] ≡ parts
+sole [] part e = absurd (omega (arith, e))
+sole (p ∷ []) part e = refl
+sole (p ∷ q ∷ parts) part e = absurd (omega (arith, e))
+
+with_parts : RecordedJob → Statuses → List Part → RecordedJob
+with_parts done statuses parts = record { job = done.job; parts = parts; statuses = statuses; payload = done.payload }
+
+pub returns-then-len-eq1-clause-whole : goal.returns-then-len-eq1-clause-whole
+unfolding with_parts
+returns-then-len-eq1-clause-whole g c =
+    let parts = c.done.inside.parts.items in
+    let job : RecordedJob = record { job = c.done.inside.job; parts = parts; statuses = c.done.inside.statuses; payload = c.done.inside.payload } in
+    let few : length parts ≡ 1 = omega (arith, c.done.inside.parts.ok) in
+    let one : c.index.result.now ∷ [] ≡ parts = ap (λ part. part ∷ []) c.index.ensures ∙ sole parts c.index.result.now few in
+    let same = ap (with_parts job (One c.in-One.status)) one ∙ ap (λ statuses. with_parts job statuses parts) (sym c.in-One.is) ∙ c.done.view_is in
+    on_ok_then c.write_one_part.result (λ taken. subst (Appends _ _) (ap done_bytes same) taken) c.write_one_part.ensures.whole
 
 pub returns-in_err-hand-clause-front : goal.returns-in_err-hand-clause-front
 returns-in_err-hand-clause-front g c =
