@@ -18,6 +18,6 @@ returns-in_err-held-clause-fault g c =
 -- And what is first wrong in it.
 pub returns-clause-fault : goal.returns-clause-fault
 returns-clause-fault g c =
-    IfErr-weaker c.witnessed_by.result _ _
+    IfErr-weaker c.witnessed_by-witnessed.result _ _
     (λ failure is. judged_fault c.args.trace.now c.args.record.now c.in_ok-held.held failure.fault is)
-    c.witnessed_by.ensures.fault
+    c.witnessed_by-witnessed.ensures.fault
