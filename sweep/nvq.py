@@ -203,7 +203,7 @@ def runs(folder):
         fault("a folder for the host file", f"cannot write {folder}", "assemble", list_, folder, hint=FOLDER),
         fault("an empty file", f"{empty}: bad name", "list", empty, hint=no_host_file(empty, b"")),
         fault("blocks of another size", f"{small}: truncated at 68", *in_large("list"), small, hint=other_block(512)),
-        fault("a truncated file", f"{cut}: truncated at 68", "list", cut),
+        fault("a truncated file", f"{cut}: truncated at 68", "list", cut, hides_wants=True),
         fault("too many commands", f"{many}: too many commands", "list", many, hides_wants=True),
         fault("a cut record", f"{cut_record}: truncated at {len(spelled_record) - 1}", "list", cut_record),
         fault("a byte more than a record", f"{more}: trailing at {len(spelled_record)}", "list", more),
