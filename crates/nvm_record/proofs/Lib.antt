@@ -1,6 +1,7 @@
 pub mod BlockSizes
 pub mod DeedLemmas
 pub mod EntryLemmas
+pub mod GroupsEqual
 pub mod HostFileLemmas
 pub mod Locality
 pub mod OneReading

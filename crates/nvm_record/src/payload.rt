@@ -2,6 +2,7 @@ ghost use Rattle.std.specs.Prelude.{◌≡◌, ◌↔◌, ◌≤◌, [], IsTrue,
 ghost use Rattle.nvm_record.specs.SharedBytes.{shared_bytes};
 
 use crate::NoMemory;
+use crate::equality::are_equal;
 use std::alloc::Global;
 use std::cmp::{Eq, PartialEq};
 use std::fmt;
@@ -46,7 +47,7 @@ impl PartialEq for Payload {
     ghost laws = { partial_equiv_from_equiv nat_list_eq_equiv };
 
     fn eq(&self, other: &Payload) -> bool {
-        self.as_slice() == other.as_slice()
+        are_equal(self.as_slice(), other.as_slice())
     }
 }
 

@@ -1,5 +1,6 @@
 ghost use Rattle.std.specs.Prelude.{◌≡◌, MatchResult, length};
 
+use crate::equality::are_equal;
 use crate::payload::Payload;
 use std::alloc::AllocError;
 use std::cmp::{Eq, PartialEq};
@@ -40,7 +41,7 @@ impl PartialEq for ReadData {
     ghost laws = { partial_equiv_from_equiv nat_list_eq_equiv };
 
     fn eq(&self, other: &ReadData) -> bool {
-        self.as_slice() == other.as_slice()
+        are_equal(self.as_slice(), other.as_slice())
     }
 }
 

@@ -6,10 +6,8 @@ use Rattle.nvm_record.specs.Medium.{bytes_of, joined}
 use Rattle.std.specs.Bool.{Decides, ◌==◌}
 use Rattle.std.proofs.lemmas.Bool.{true≢false}
 use Rattle.std.proofs.lemmas.Bool.Decides.{Decides-eqb}
-use Rattle.std.proofs.lemmas.List.{take-append-drop}
 use Rattle.std.proofs.lemmas.Slice.Eq.{bytes_eq-Decides}
 use Rattle.std.proofs.Math.Seq.{take-append_seam, take-length}
-use Rattle.std.specs.Prelude.{Option, None, Some, MatchOption}
 
 -- Bytes are all zero where the first is and each is as the one before it.
 pub zeroes_by_shift : (x : ℕ) (xs : List ℕ) → x ≡ 0 → xs ≡ take (length xs) (x ∷ xs) → x ∷ xs ≡ replicate {A = ℕ} (suc (length xs)) 0
@@ -36,19 +34,11 @@ zero_test (x ∷ xs) b some first is =
       λ zeroes. is' ∙ tells.1 (ap (drop 1) zeroes ∙ shift_of_zeroes n ∙ ap (take n) (sym zeroes)),
     )
 
--- what is after bytes with which data may begin
-pub stripped : {X : Type 0} (now : X → List ℕ) (o : Option X) (own payload : List ℕ)
-    → MatchOption o (bytes_eq (take (length own) payload) own ≡ false)
-    (λ x. (bytes_eq (take (length own) payload) own ≡ true) × (now x ≡ drop (length own) payload) × (length (now x) + length own ≡ length payload))
-    → MatchOption o ((rest : List ℕ) → own ++ rest ≡ payload → ⊥) (λ x. own ++ now x ≡ payload)
-stripped now None own payload differ =
-    λ rest e.
+-- Data whose front differs does not begin with the bytes.
+pub no_front : (own payload rest : List ℕ) → bytes_eq (take (length own) payload) own ≡ false → own ++ rest ≡ payload → ⊥
+no_front own payload rest differ e =
     let front : take (length own) payload ≡ own = ap (take (length own)) (sym e) ∙ take-append_seam own rest in
     true≢false (sym ((bytes_eq-Decides (take (length own) payload) own).1 front) ∙ differ)
-stripped now (Some x) own payload same =
-    let front : take (length own) payload ≡ own = (bytes_eq-Decides (take (length own) payload) own).0 same.0 in
-    ap (λ (l : List ℕ). l ++ now x) (sym front) ∙ ap (λ (l : List ℕ). take (length own) payload ++ l) same.1
-    ∙ take-append-drop (length own) payload
 
 -- The bytes of the blocks from place i on begin with those of the block there.
 pub next_begins : (blocks : List Block) (i : ℕ) (b : Block) → i < length blocks → get_or blocks i b ≡ b

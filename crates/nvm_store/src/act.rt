@@ -7,8 +7,8 @@ ghost use Rattle.nvm_store.specs.Operation.{write_operation, zeroes_operation, u
 
 use crate::act_ref::ActRef;
 use crate::cut_ranges;
-use nvm_record::Payload;
 use nvm_record::laws::cut_ranges_lie_within;
+use nvm_record::{Payload, are_equal};
 use std::alloc::AllocError;
 
 /// What may change the blocks of a unit.
@@ -169,7 +169,7 @@ impl Act {
                 first,
                 blocks,
                 payload,
-            } => *first == from && *blocks == count && payload.as_slice() == bytes,
+            } => *first == from && *blocks == count && are_equal(payload.as_slice(), bytes),
             _ => false,
         }
     }
@@ -207,8 +207,8 @@ impl Act {
             } => {
                 *first == from
                     && *blocks == count
-                    && compare.as_slice() == old
-                    && write.as_slice() == new
+                    && are_equal(compare.as_slice(), old)
+                    && are_equal(write.as_slice(), new)
             }
             _ => false,
         }

@@ -3,6 +3,7 @@ ghost use Rattle.nvm_record.specs.PayloadRef.{lent_bytes};
 
 use super::PayloadRef;
 use crate::NoMemory;
+use crate::equality::are_equal;
 use crate::payload::Payload;
 use std::alloc::Global;
 use std::cmp::{Eq, PartialEq};
@@ -21,7 +22,7 @@ impl PartialEq for PayloadRef<'_> {
     ghost laws = { on_per lent_bytes (partial_equiv_from_equiv nat_list_eq_equiv) };
 
     fn eq(&self, other: &Self) -> bool {
-        self.as_slice() == other.as_slice()
+        are_equal(self.as_slice(), other.as_slice())
     }
 }
 

@@ -8,7 +8,7 @@ ghost use Rattle.nvm_store.specs.Inside.Sound.{AreOfSize};
 
 use crate::blocks::shared_blocks::SharedBlocks;
 use crate::blocks::stored_block::{are_zero, push_zeroes, put_zeroes};
-use nvm_record::{NoMemory, PayloadRef};
+use nvm_record::{NoMemory, PayloadRef, are_equal};
 use std::alloc::Global;
 use std::marker::Model;
 
@@ -142,7 +142,7 @@ impl OwnBlocks {
             }
             return are_zero(payload);
         }
-        &self.bytes[from..from + len] == payload
+        are_equal(&self.bytes[from..from + len], payload)
     }
 
     /// Appends the bytes of the `count` blocks from place `at`. It takes no memory where `bytes` has room for them.

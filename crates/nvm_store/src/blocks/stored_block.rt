@@ -8,7 +8,7 @@ ghost use Rattle.nvm_store.specs.Inside.Source.{HasBlocks, source_block};
 
 use crate::blocks::content::Content;
 use crate::blocks::source::Source;
-use nvm_record::{NoMemory, Payload};
+use nvm_record::{NoMemory, Payload, are_equal};
 use std::alloc::{AllocError, Global};
 use std::marker::Model;
 
@@ -116,7 +116,7 @@ impl StoredBlock {
     {
         match &self.content {
             Content::Zero { size } => behind_zeroes(*size, payload),
-            Content::Data(own) => payload.strip_prefix(own.as_slice()),
+            Content::Data(own) => behind_bytes(own.as_slice(), payload),
             Content::Marked => Some(payload),
         }
     }
@@ -177,6 +177,23 @@ pub fn push_zeroes(count: usize, bytes: &mut Vec<u8>) -> Result<(), NoMemory>
         return Err(AllocError);
     };
     bytes.resize(len, 0)
+}
+
+/// The data after these bytes, or `None` where it doesn't begin with them.
+fn behind_bytes<'a>(bytes: &[u8], payload: &'a [u8]) -> Option<&'a [u8]>
+    ensures { MatchOption result
+        ((rest : List ℕ) → bytes.now ++ rest ≡ payload.now → ⊥)
+        (λ rest. bytes.now ++ rest.now ≡ payload.now) }
+{
+    if payload.len() < bytes.len() {
+        return None;
+    }
+    let (front, rest) = payload.split_at(bytes.len());
+    if are_equal(front, bytes) {
+        Some(rest)
+    } else {
+        None
+    }
 }
 
 /// The data after `size` zero bytes, or `None` where it doesn't begin with them.

@@ -42,4 +42,4 @@ returns c =
     ap (λ (l : List ℕ). take (from + len - from) (drop from l)) c.deref.ensures.value
     ∙ asked_part own.count own.size own.bytes.items c.args.self.now c.args.at c.args.count from len c.self.view_is c.self.invariant.whole
     (λ none. some (omega (arith, none))) c.requires c.bytes_of-from.ensures.from c.bytes_of-from.ensures.len in
-    c.eq.ensures ∙ ap (λ (l : List ℕ). bytes_eq l c.args.payload.now) part
+    c.are_equal.ensures ∙ ap (λ (l : List ℕ). bytes_eq l c.args.payload.now) part
