@@ -1,16 +1,17 @@
 //! What comes before the data of a line.
-ghost use Rattle.std.specs.Prelude.{◌≡◌, ◌+◌, ◌≤◌, ◌++◌, codes, length};
+ghost use Rattle.std.specs.Prelude.{◌≡◌, ◌+◌, ◌≤◌, [], ◌∷◌, ◌++◌, codes, length};
 ghost use Rattle.nvm_text.specs.Lines.{identifiers, name_of, status_text};
 
 use crate::name::word_of;
 use crate::piece::Piece;
 use nvm_record::{Op, Status};
 
-/// Host, command identifier, name and status.
-pub fn front_of(op: Op, host: u16, cid: u16, status: Status) -> Piece
-    ensures { result ≡ identifiers host cid ++ (name_of op ++ (codes " " ++ status_text status)) }
+/// Host, command identifier, name and status, and the byte behind them.
+pub fn front_of(op: Op, host: u16, cid: u16, status: Status, behind: u8) -> Piece
+    ensures { result ≡ identifiers host cid ++ (name_of op ++ (codes " " ++ (status_text status ++ behind ∷ []))) }
 {
     let mut front = Piece::new();
+    front.put_byte(behind);
     put_status(&mut front, status);
     front.put_byte(b' ');
     put_name(&mut front, op);

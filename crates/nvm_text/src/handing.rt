@@ -6,30 +6,52 @@ ghost use Rattle.nvm_text.specs.Handed.{TakesFront};
 use std::io;
 use std::io::{Error, ErrorKind, Write};
 
+/// The writer failed, and its error is noted where the caller wants it.
+#[derive(Clone, Copy, Debug, PartialEq, Eq)]
+pub struct Noted;
+
 /// Writes all of the bytes, in as many calls as the writer wants. A call that was interrupted is made again.
 ///
 /// Where the writer fails, its error is answered, or `WriteZero` where it takes no more bytes. It has taken a front of the bytes
 /// then, and nothing else.
-///
-/// Where the first call takes all of them, as a buffer with room does, it costs no more than that call.
 #[inline(always)]
 pub fn hand<W: Write>(writer: &mut W, bytes: &[u8]) -> io::Result<()>
     ensures whole { OnOk result (Appends (W.contents writer.old) (W.contents writer.new) bytes.now) }
     ensures front { OnErr result (TakesFront (W.contents writer.old) (W.contents writer.new) bytes.now) }
 {
+    let mut noted = None;
+    match hand_noting(writer, &mut noted, bytes) {
+        Ok(()) => Ok(()),
+        Err(Noted) => Err(noted_error(noted)),
+    }
+}
+
+/// Does what [`hand`] does, and notes the error of the writer where it fails. Who hands over many short pieces saves more instructions than most of
+/// them take: an `io::Result` has 96 bytes, which each call clears and copies.
+///
+/// Where the first call takes all of them, as a buffer with room does, it costs no more than that call.
+#[inline(always)]
+pub fn hand_noting<W: Write>(
+    writer: &mut W,
+    noted: &mut Option<Error>,
+    bytes: &[u8],
+) -> Result<(), Noted>
+    ensures whole { OnOk result (Appends (W.contents writer.old) (W.contents writer.new) bytes.now) }
+    ensures front { OnErr result (TakesFront (W.contents writer.old) (W.contents writer.new) bytes.now) }
+{
     match writer.write(bytes) {
         Ok(count) if count == bytes.len() => Ok(()),
-        Ok(0) => Err(taken_none()),
-        Ok(count) => hand_rest(writer, &bytes[count..]),
-        Err(error) if error.kind() == ErrorKind::Interrupted => hand_rest(writer, bytes),
-        Err(error) => Err(error),
+        Ok(0) => Err(note(noted, taken_none())),
+        Ok(count) => hand_rest(writer, noted, &bytes[count..]),
+        Err(error) if error.kind() == ErrorKind::Interrupted => hand_rest(writer, noted, bytes),
+        Err(error) => Err(note(noted, error)),
     }
 }
 
 /// Writes all of the bytes, call by call.
 #[cold]
 #[inline(never)]
-fn hand_rest<W: Write>(writer: &mut W, bytes: &[u8]) -> io::Result<()>
+fn hand_rest<W: Write>(writer: &mut W, noted: &mut Option<Error>, bytes: &[u8]) -> Result<(), Noted>
     ensures whole { OnOk result (Appends (W.contents writer.old) (W.contents writer.new) bytes.now) }
     ensures front { OnErr result (TakesFront (W.contents writer.old) (W.contents writer.new) bytes.now) }
 {
@@ -39,16 +61,30 @@ fn hand_rest<W: Write>(writer: &mut W, bytes: &[u8]) -> io::Result<()>
             return Ok(());
         }
         match writer.write(rest) {
-            Ok(0) => return Err(taken_none()),
+            Ok(0) => return Err(note(noted, taken_none())),
             Ok(count) => rest = &rest[count..],
             Err(error) => {
                 if error.kind() != ErrorKind::Interrupted {
-                    return Err(error);
+                    return Err(note(noted, error));
                 }
             }
         }
     }
-    Err(taken_none())
+    Err(note(noted, taken_none()))
+}
+
+/// Notes the error.
+#[cold]
+#[inline(never)]
+fn note(noted: &mut Option<Error>, error: Error) -> Noted {
+    *noted = Some(error);
+    Noted
+}
+
+/// The error that was noted.
+#[cold]
+pub fn noted_error(noted: Option<Error>) -> Error {
+    noted.unwrap_or_else(taken_none)
 }
 
 /// What is answered where the writer takes no more.

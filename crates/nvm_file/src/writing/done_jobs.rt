@@ -14,12 +14,16 @@ use byteorder::{ByteOrder, LittleEndian};
 use nvm_audit::DoneJob;
 use nvm_plan::{Part, PartResult};
 use nvm_record::{ReadData, Status, Statuses};
-use nvm_text::hand;
+use nvm_text::{Noted, hand_noting};
 use std::io;
 use std::io::Write;
 
 /// Writes what each worker did.
-pub fn write_workers<W: Write>(writer: &mut W, workers: &[Vec<DoneJob>]) -> io::Result<()>
+pub fn write_workers<W: Write>(
+    writer: &mut W,
+    noted: &mut Option<io::Error>,
+    workers: &[Vec<DoneJob>],
+) -> Result<(), Noted>
     requires { All (λ work. IsShortWork work.items) workers.now }
     ensures whole { OnOk result (Appends (W.contents writer.old) (W.contents writer.new)
         (flat_map work_bytes (map (λ work. work.items) workers.now))) }
@@ -28,50 +32,60 @@ pub fn write_workers<W: Write>(writer: &mut W, workers: &[Vec<DoneJob>]) -> io::
     ensures fit { OnOk result (All (λ work. All DoneFits work.items) workers.now) }
 {
     for work in workers {
-        write_work(writer, work)?;
+        write_work(writer, noted, work)?;
     }
     Ok(())
 }
 
 /// Writes how many jobs the worker did, and each of them.
-fn write_work<W: Write>(writer: &mut W, work: &[DoneJob]) -> io::Result<()>
+fn write_work<W: Write>(
+    writer: &mut W,
+    noted: &mut Option<io::Error>,
+    work: &[DoneJob],
+) -> Result<(), Noted>
     requires { IsShortWork work.now }
     ensures whole { OnOk result (Appends (W.contents writer.old) (W.contents writer.new) (work_bytes work.now)) }
     ensures front { OnErr result (TakesFront (W.contents writer.old) (W.contents writer.new) (work_bytes work.now)) }
     ensures fit { OnOk result (All DoneFits work.now) }
 {
-    hand(writer, &count_bytes(work.len()))?;
+    hand_noting(writer, noted, &count_bytes(work.len()))?;
     for done in work {
-        write_done(writer, done)?;
+        write_done(writer, noted, done)?;
     }
     Ok(())
 }
 
-fn write_done<W: Write>(writer: &mut W, done: &DoneJob) -> io::Result<()>
+fn write_done<W: Write>(
+    writer: &mut W,
+    noted: &mut Option<io::Error>,
+    done: &DoneJob,
+) -> Result<(), Noted>
     requires { IsShortDone done.now }
     ensures whole { OnOk result (Appends (W.contents writer.old) (W.contents writer.new) (done_bytes done.now)) }
     ensures front { OnErr result (TakesFront (W.contents writer.old) (W.contents writer.new) (done_bytes done.now)) }
     ensures fits { OnOk result (DoneFits done.now) }
 {
+    let parts = done.parts.as_slice();
     if let Statuses::One(status) = done.statuses {
-        if done.parts.len() == 1 {
-            return write_one_part(writer, done.job, done.parts[0], status, &done.payload);
+        if parts.len() == 1 {
+            return write_one_part(writer, noted, done.job, parts[0], status, &done.payload);
         }
     }
-    hand(writer, &done_front(done))?;
-    write_parts(writer, &done.parts)?;
-    write_statuses(writer, done.statuses)?;
-    write_payload(writer, &done.payload)
+    hand_noting(writer, noted, &done_front(done))?;
+    write_parts(writer, noted, parts)?;
+    write_statuses(writer, noted, done.statuses)?;
+    write_payload(writer, noted, &done.payload)
 }
 
 /// Writes a done job of one command and one part, as most are. All before the data is handed over at once.
 fn write_one_part<W: Write>(
     writer: &mut W,
+    noted: &mut Option<io::Error>,
     job: u32,
     part: Part,
     status: Status,
     payload: &Option<ReadData>,
-) -> io::Result<()>
+) -> Result<(), Noted>
     ensures whole { OnOk result (Appends (W.contents writer.old) (W.contents writer.new)
         (done_bytes (record { job = job; parts = part ∷ []; statuses = One status; payload = payload.now }))) }
     ensures front { OnErr result (TakesFront (W.contents writer.old) (W.contents writer.new)
@@ -79,10 +93,10 @@ fn write_one_part<W: Write>(
     ensures fits { OnOk result (DoneFits (record { job = job; parts = part ∷ []; statuses = One status; payload = payload.now })) }
 {
     match payload {
-        None => hand(writer, &one_part_front(job, part, status, 0)),
+        None => hand_noting(writer, noted, &one_part_front(job, part, status, 0)),
         Some(payload) => {
-            hand(writer, &one_part_front(job, part, status, 1))?;
-            hand(writer, payload.as_slice())
+            hand_noting(writer, noted, &one_part_front(job, part, status, 1))?;
+            hand_noting(writer, noted, payload.as_slice())
         }
     }
 }
@@ -115,14 +129,18 @@ fn done_front(done: &DoneJob) -> [u8; 6]
     front
 }
 
-fn write_parts<W: Write>(writer: &mut W, parts: &[Part]) -> io::Result<()>
+fn write_parts<W: Write>(
+    writer: &mut W,
+    noted: &mut Option<io::Error>,
+    parts: &[Part],
+) -> Result<(), Noted>
     ensures whole { OnOk result (Appends (W.contents writer.old) (W.contents writer.new) (flat_map spec.part_bytes parts.now)) }
     ensures front { OnErr result (TakesFront (W.contents writer.old) (W.contents writer.new)
         (flat_map spec.part_bytes parts.now)) }
     ensures fit { OnOk result (All PartFits parts.now) }
 {
     for part in parts {
-        hand(writer, &part_bytes(*part))?;
+        hand_noting(writer, noted, &part_bytes(*part))?;
     }
     Ok(())
 }
@@ -152,29 +170,37 @@ fn result_code(end: PartResult) -> u8
 }
 
 /// Writes the status of each command.
-pub fn write_statuses<W: Write>(writer: &mut W, statuses: Statuses) -> io::Result<()>
+pub fn write_statuses<W: Write>(
+    writer: &mut W,
+    noted: &mut Option<io::Error>,
+    statuses: Statuses,
+) -> Result<(), Noted>
     ensures whole { OnOk result (Appends (W.contents writer.old) (W.contents writer.new) (statuses_bytes statuses)) }
     ensures front { OnErr result (TakesFront (W.contents writer.old) (W.contents writer.new) (statuses_bytes statuses)) }
     ensures fit { StatusesFit statuses }
 {
     match statuses {
-        Statuses::One(status) => hand(writer, &[status.sct, status.sc]),
+        Statuses::One(status) => hand_noting(writer, noted, &[status.sct, status.sc]),
         Statuses::Two(first, second) => {
-            hand(writer, &[first.sct, first.sc, second.sct, second.sc])
+            hand_noting(writer, noted, &[first.sct, first.sc, second.sct, second.sc])
         }
     }
 }
 
 /// Writes whether there is data, and the data.
-pub fn write_payload<W: Write>(writer: &mut W, payload: &Option<ReadData>) -> io::Result<()>
+pub fn write_payload<W: Write>(
+    writer: &mut W,
+    noted: &mut Option<io::Error>,
+    payload: &Option<ReadData>,
+) -> Result<(), Noted>
     ensures whole { OnOk result (Appends (W.contents writer.old) (W.contents writer.new) (payload_bytes payload.now)) }
     ensures front { OnErr result (TakesFront (W.contents writer.old) (W.contents writer.new) (payload_bytes payload.now)) }
 {
     match payload {
-        None => hand(writer, &[0]),
+        None => hand_noting(writer, noted, &[0]),
         Some(payload) => {
-            hand(writer, &[1])?;
-            hand(writer, payload.as_slice())
+            hand_noting(writer, noted, &[1])?;
+            hand_noting(writer, noted, payload.as_slice())
         }
     }
 }

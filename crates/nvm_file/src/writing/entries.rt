@@ -14,12 +14,16 @@ use super::bytes::{count_bytes, two_bytes};
 use byteorder::{ByteOrder, LittleEndian};
 use nvm_record::{LbaRange, range_count};
 use nvm_store::{Act, Entry, History};
-use nvm_text::hand;
+use nvm_text::{Noted, hand_noting};
 use std::io;
 use std::io::Write;
 
 /// Writes the history of each unit.
-pub fn write_units<W: Write>(writer: &mut W, units: &[History]) -> io::Result<()>
+pub fn write_units<W: Write>(
+    writer: &mut W,
+    noted: &mut Option<io::Error>,
+    units: &[History],
+) -> Result<(), Noted>
     requires { All (λ history. IsShortHistory history.items) units.now }
     ensures whole { OnOk result (Appends (W.contents writer.old) (W.contents writer.new)
         (flat_map history_bytes (map (λ history. history.items) units.now))) }
@@ -27,30 +31,38 @@ pub fn write_units<W: Write>(writer: &mut W, units: &[History]) -> io::Result<()
         (flat_map history_bytes (map (λ history. history.items) units.now))) }
 {
     for history in units {
-        write_history(writer, history)?;
+        write_history(writer, noted, history)?;
     }
     Ok(())
 }
 
 /// Writes how many entries there are, and each of them.
-fn write_history<W: Write>(writer: &mut W, history: &[Entry]) -> io::Result<()>
+fn write_history<W: Write>(
+    writer: &mut W,
+    noted: &mut Option<io::Error>,
+    history: &[Entry],
+) -> Result<(), Noted>
     requires { IsShortHistory history.now }
     ensures whole { OnOk result (Appends (W.contents writer.old) (W.contents writer.new) (history_bytes history.now)) }
     ensures front { OnErr result (TakesFront (W.contents writer.old) (W.contents writer.new) (history_bytes history.now)) }
 {
-    hand(writer, &count_bytes(history.len()))?;
+    hand_noting(writer, noted, &count_bytes(history.len()))?;
     for entry in history {
-        write_entry(writer, entry)?;
+        write_entry(writer, noted, entry)?;
     }
     Ok(())
 }
 
-fn write_entry<W: Write>(writer: &mut W, entry: &Entry) -> io::Result<()>
+fn write_entry<W: Write>(
+    writer: &mut W,
+    noted: &mut Option<io::Error>,
+    entry: &Entry,
+) -> Result<(), Noted>
     requires { IsShortDeed entry.now.operation.deed }
     ensures whole { OnOk result (Appends (W.contents writer.old) (W.contents writer.new) (entry_bytes entry.now)) }
     ensures front { OnErr result (TakesFront (W.contents writer.old) (W.contents writer.new) (entry_bytes entry.now)) }
 {
-    write_act(writer, entry.pass, entry.job, &entry.act)
+    write_act(writer, noted, entry.pass, entry.job, &entry.act)
 }
 
 /// The kind of the entry that has the act.
@@ -67,7 +79,13 @@ fn kind(act: &Act) -> u8
 }
 
 /// Writes an entry by its numbers and what was done. The numbers, the kind and, but for a Deallocate, the range are handed over at once.
-fn write_act<W: Write>(writer: &mut W, pass: u16, job: u32, act: &Act) -> io::Result<()>
+fn write_act<W: Write>(
+    writer: &mut W,
+    noted: &mut Option<io::Error>,
+    pass: u16,
+    job: u32,
+    act: &Act,
+) -> Result<(), Noted>
     requires { IsShortDeed (operation_of act.now).deed }
     ensures whole { OnOk result (Appends (W.contents writer.old) (W.contents writer.new)
         (entry_bytes (record { pass = pass; job = job; operation = operation_of act.now }))) }
@@ -81,11 +99,19 @@ fn write_act<W: Write>(writer: &mut W, pass: u16, job: u32, act: &Act) -> io::Re
             blocks,
             payload,
         } => {
-            hand(writer, &extent_front(pass, job, kind, *first, *blocks))?;
-            hand(writer, payload.as_slice())
+            hand_noting(
+                writer,
+                noted,
+                &extent_front(pass, job, kind, *first, *blocks),
+            )?;
+            hand_noting(writer, noted, payload.as_slice())
         }
         Act::Zeroes { first, blocks } | Act::Uncorrectable { first, blocks } => {
-            hand(writer, &extent_front(pass, job, kind, *first, *blocks))
+            hand_noting(
+                writer,
+                noted,
+                &extent_front(pass, job, kind, *first, *blocks),
+            )
         }
         Act::Pair {
             first,
@@ -93,13 +119,17 @@ fn write_act<W: Write>(writer: &mut W, pass: u16, job: u32, act: &Act) -> io::Re
             compare,
             write,
         } => {
-            hand(writer, &extent_front(pass, job, kind, *first, *blocks))?;
-            hand(writer, compare.as_slice())?;
-            hand(writer, write.as_slice())
+            hand_noting(
+                writer,
+                noted,
+                &extent_front(pass, job, kind, *first, *blocks),
+            )?;
+            hand_noting(writer, noted, compare.as_slice())?;
+            hand_noting(writer, noted, write.as_slice())
         }
         Act::Deallocate { ranges, .. } => {
-            hand(writer, &entry_front(pass, job, kind))?;
-            write_ranges(writer, ranges.as_slice())
+            hand_noting(writer, noted, &entry_front(pass, job, kind))?;
+            write_ranges(writer, noted, ranges.as_slice())
         }
     }
 }
@@ -139,7 +169,11 @@ fn extent_bytes(first: u64, blocks: u32) -> [u8; 12]
 }
 
 /// Writes how many ranges there are, and each of them, without its context attributes.
-fn write_ranges<W: Write>(writer: &mut W, payload: &[u8]) -> io::Result<()>
+fn write_ranges<W: Write>(
+    writer: &mut W,
+    noted: &mut Option<io::Error>,
+    payload: &[u8],
+) -> Result<(), Noted>
     requires { ranges.range_count payload.now ≤ most_ranges }
     ensures whole { OnOk result (Appends (W.contents writer.old) (W.contents writer.new)
         (little_bytes 2 (ranges.range_count payload.now) ++ flat_map cut_bytes (ranges_of payload.now))) }
@@ -147,10 +181,10 @@ fn write_ranges<W: Write>(writer: &mut W, payload: &[u8]) -> io::Result<()>
         (little_bytes 2 (ranges.range_count payload.now) ++ flat_map cut_bytes (ranges_of payload.now))) }
 {
     let count = range_count(payload);
-    hand(writer, &two_bytes(count as u16))?;
+    hand_noting(writer, noted, &two_bytes(count as u16))?;
     for place in 0..count {
         let range = LbaRange::at(payload, place);
-        hand(writer, &extent_bytes(range.first, range.blocks))?;
+        hand_noting(writer, noted, &extent_bytes(range.first, range.blocks))?;
     }
     Ok(())
 }

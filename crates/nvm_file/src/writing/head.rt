@@ -11,20 +11,24 @@ use byteorder::{ByteOrder, LittleEndian};
 use nvm_audit::{Record, Version};
 use nvm_geometry::Geometry;
 use nvm_store::Limit;
-use nvm_text::hand;
+use nvm_text::{Noted, hand_noting};
 use std::io;
 use std::io::Write;
 
 /// Writes what stands before the jobs.
-pub fn write_head<W: Write>(writer: &mut W, run: &Record) -> io::Result<()>
+pub fn write_head<W: Write>(
+    writer: &mut W,
+    noted: &mut Option<io::Error>,
+    run: &Record,
+) -> Result<(), Noted>
     ensures whole { OnOk result (Appends (W.contents writer.old) (W.contents writer.new) (head_bytes run.now)) }
     ensures front { OnErr result (TakesFront (W.contents writer.old) (W.contents writer.new) (head_bytes run.now)) }
     ensures fit { OnOk result (NumbersFit run.now.namespace) }
 {
-    hand(writer, name(run.version))?;
-    hand(writer, &namespace_bytes(run.geometry))?;
-    write_limit(writer, run.version, run.limit)?;
-    hand(writer, &two_bytes(run.workers))
+    hand_noting(writer, noted, name(run.version))?;
+    hand_noting(writer, noted, &namespace_bytes(run.geometry))?;
+    write_limit(writer, noted, run.version, run.limit)?;
+    hand_noting(writer, noted, &two_bytes(run.workers))
 }
 
 /// The name of a file of the version.
@@ -53,14 +57,19 @@ pub fn namespace_bytes(geometry: Geometry) -> [u8; 20]
 }
 
 /// Writes the limit, for which the version has room.
-fn write_limit<W: Write>(writer: &mut W, version: Version, limit: Limit) -> io::Result<()>
+fn write_limit<W: Write>(
+    writer: &mut W,
+    noted: &mut Option<io::Error>,
+    version: Version,
+    limit: Limit,
+) -> Result<(), Noted>
     requires { HoldsLimit version limit }
     ensures whole { OnOk result (Appends (W.contents writer.old) (W.contents writer.new) (limit_bytes version limit)) }
     ensures front { OnErr result (TakesFront (W.contents writer.old) (W.contents writer.new) (limit_bytes version limit)) }
 {
     let entries = limit.entries();
     match version {
-        Version::One => hand(writer, &two_bytes((entries - 1) as u16)),
-        Version::Two => hand(writer, &four_bytes(entries)),
+        Version::One => hand_noting(writer, noted, &two_bytes((entries - 1) as u16)),
+        Version::Two => hand_noting(writer, noted, &four_bytes(entries)),
     }
 }

@@ -5,7 +5,7 @@ ghost use Rattle.nvm_text.specs.Handed.{TakesFront};
 
 use super::jobs::write_command;
 use nvm_record::Command;
-use nvm_text::hand;
+use nvm_text::{Noted, hand_noting, noted_error};
 use std::io;
 use std::io::Write;
 
@@ -20,9 +20,24 @@ pub fn write_host<W: Write>(writer: &mut W, commands: &[Command]) -> io::Result<
     ensures whole { OnOk result (Appends (W.contents writer.old) (W.contents writer.new) (file_of commands.now)) }
     ensures front { OnErr result (TakesFront (W.contents writer.old) (W.contents writer.new) (file_of commands.now)) }
 {
-    hand(writer, &NAME)?;
+    let mut noted = None;
+    match write_commands(writer, &mut noted, commands) {
+        Ok(()) => Ok(()),
+        Err(Noted) => Err(noted_error(noted)),
+    }
+}
+
+fn write_commands<W: Write>(
+    writer: &mut W,
+    noted: &mut Option<io::Error>,
+    commands: &[Command],
+) -> Result<(), Noted>
+    ensures whole { OnOk result (Appends (W.contents writer.old) (W.contents writer.new) (file_of commands.now)) }
+    ensures front { OnErr result (TakesFront (W.contents writer.old) (W.contents writer.new) (file_of commands.now)) }
+{
+    hand_noting(writer, noted, &NAME)?;
     for command in commands {
-        write_command(writer, command)?;
+        write_command(writer, noted, command)?;
     }
     Ok(())
 }

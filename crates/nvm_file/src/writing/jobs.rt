@@ -11,35 +11,43 @@ use super::bytes::count_bytes;
 use byteorder::{ByteOrder, LittleEndian};
 use nvm_plan::{Body, Job};
 use nvm_record::{Command, command_bytes};
-use nvm_text::hand;
+use nvm_text::{Noted, hand_noting};
 use std::io;
 use std::io::Write;
 
 /// Writes how many jobs there are, and each of them.
-pub fn write_jobs<W: Write>(writer: &mut W, jobs: &[Job]) -> io::Result<()>
+pub fn write_jobs<W: Write>(
+    writer: &mut W,
+    noted: &mut Option<io::Error>,
+    jobs: &[Job],
+) -> Result<(), Noted>
     requires { length jobs.now < 2 ^ 32 }
     ensures whole { OnOk result (Appends (W.contents writer.old) (W.contents writer.new) (counted job_bytes jobs.now)) }
     ensures front { OnErr result (TakesFront (W.contents writer.old) (W.contents writer.new) (counted job_bytes jobs.now)) }
     ensures fit { OnOk result (All JobFits jobs.now) }
 {
-    hand(writer, &count_bytes(jobs.len()))?;
+    hand_noting(writer, noted, &count_bytes(jobs.len()))?;
     for job in jobs {
-        write_job(writer, job)?;
+        write_job(writer, noted, job)?;
     }
     Ok(())
 }
 
 /// Writes a job.
-pub fn write_job<W: Write>(writer: &mut W, job: &Job) -> io::Result<()>
+pub fn write_job<W: Write>(
+    writer: &mut W,
+    noted: &mut Option<io::Error>,
+    job: &Job,
+) -> Result<(), Noted>
     ensures whole { OnOk result (Appends (W.contents writer.old) (W.contents writer.new) (job_bytes job.now)) }
     ensures front { OnErr result (TakesFront (W.contents writer.old) (W.contents writer.new) (job_bytes job.now)) }
     ensures fits { OnOk result (JobFits job.now) }
 {
     match &job.body {
-        Body::Single(command) => write_first(writer, job.host, 0, command),
+        Body::Single(command) => write_first(writer, noted, job.host, 0, command),
         Body::Pair(first, second) => {
-            write_first(writer, job.host, 1, first)?;
-            write_command(writer, second)
+            write_first(writer, noted, job.host, 1, first)?;
+            write_command(writer, noted, second)
         }
     }
 }
@@ -47,15 +55,21 @@ pub fn write_job<W: Write>(writer: &mut W, job: &Job) -> io::Result<()>
 /// Writes what a job begins with: the number of its host, its kind, which is 0 for a command by itself and 1 for a pair, and its first command.
 /// All before the command's data is handed over at once.
 #[inline(always)]
-fn write_first<W: Write>(writer: &mut W, host: u16, kind: u8, command: &Command) -> io::Result<()>
+fn write_first<W: Write>(
+    writer: &mut W,
+    noted: &mut Option<io::Error>,
+    host: u16,
+    kind: u8,
+    command: &Command,
+) -> Result<(), Noted>
     ensures whole { OnOk result (Appends (W.contents writer.old) (W.contents writer.new)
         (little_bytes 2 host ++ (kind ∷ spelling_of command.now))) }
     ensures front { OnErr result (TakesFront (W.contents writer.old) (W.contents writer.new)
         (little_bytes 2 host ++ (kind ∷ spelling_of command.now))) }
     ensures fits { HasFieldsInRange command.now }
 {
-    hand(writer, &first_piece(host, kind, command))?;
-    hand(writer, command.payload.as_slice())
+    hand_noting(writer, noted, &first_piece(host, kind, command))?;
+    hand_noting(writer, noted, command.payload.as_slice())
 }
 
 /// The number of the host, the kind, and the command's submission entry.
@@ -71,11 +85,15 @@ fn first_piece(host: u16, kind: u8, command: &Command) -> [u8; 67]
 }
 
 /// Writes a command's submission entry, and its data.
-pub fn write_command<W: Write>(writer: &mut W, command: &Command) -> io::Result<()>
+pub fn write_command<W: Write>(
+    writer: &mut W,
+    noted: &mut Option<io::Error>,
+    command: &Command,
+) -> Result<(), Noted>
     ensures whole { OnOk result (Appends (W.contents writer.old) (W.contents writer.new) (spelling_of command.now)) }
     ensures front { OnErr result (TakesFront (W.contents writer.old) (W.contents writer.new) (spelling_of command.now)) }
     ensures fits { HasFieldsInRange command.now }
 {
-    hand(writer, &command_bytes(command))?;
-    hand(writer, command.payload.as_slice())
+    hand_noting(writer, noted, &command_bytes(command))?;
+    hand_noting(writer, noted, command.payload.as_slice())
 }

@@ -16,7 +16,7 @@ use super::jobs::write_job;
 use crate::laws::spellings_are_traces;
 use crate::traced_job::NEVER;
 use byteorder::{ByteOrder, LittleEndian};
-use nvm_text::hand;
+use nvm_text::{Noted, hand_noting, noted_error};
 use nvm_trace::{Deallocated, Ending, Reads, Start, Trace, TracedJob};
 use std::io;
 use std::io::{ErrorKind, Write};
@@ -34,22 +34,45 @@ pub fn write_trace<W: Write>(writer: &mut W, trace: &Trace) -> io::Result<()>
     ensures fits { OnOk result (TraceFits trace.now) }
     ensures file { OnOk result (IsTraceFile (trace_bytes trace.now) trace.now) }
 {
+    let mut noted = None;
+    match write_parts(writer, &mut noted, trace) {
+        Ok(()) => Ok(()),
+        Err(Noted) => Err(noted_error(noted)),
+    }
+}
+
+/// Writes what stands before the jobs, and these.
+fn write_parts<W: Write>(
+    writer: &mut W,
+    noted: &mut Option<io::Error>,
+    trace: &Trace,
+) -> Result<(), Noted>
+    ensures whole { OnOk result (Appends (W.contents writer.old) (W.contents writer.new) (trace_bytes trace.now)) }
+    ensures front { OnErr result (TakesFront (W.contents writer.old) (W.contents writer.new) (trace_bytes trace.now)) }
+    ensures fits { OnOk result (TraceFits trace.now) }
+    ensures file { OnOk result (IsTraceFile (trace_bytes trace.now) trace.now) }
+{
     spellings_are_traces();
-    write_trace_head(writer, trace)?;
-    write_traced_jobs(writer, &trace.jobs)
+    write_trace_head(writer, noted, trace)?;
+    write_traced_jobs(writer, noted, &trace.jobs)
 }
 
 /// Writes what stands before the jobs.
-fn write_trace_head<W: Write>(writer: &mut W, trace: &Trace) -> io::Result<()>
+fn write_trace_head<W: Write>(
+    writer: &mut W,
+    noted: &mut Option<io::Error>,
+    trace: &Trace,
+) -> Result<(), Noted>
     ensures whole { OnOk result (Appends (W.contents writer.old) (W.contents writer.new) (trace_head_bytes trace.now)) }
     ensures front { OnErr result (TakesFront (W.contents writer.old) (W.contents writer.new) (trace_head_bytes trace.now)) }
     ensures fit { OnOk result (NumbersFit trace.now.namespace) }
     ensures window { OnOk result (trace.now.first < 2 ^ 64) }
 {
-    hand(writer, b"NVT1")?;
-    hand(writer, &namespace_bytes(trace.geometry))?;
-    hand(
+    hand_noting(writer, noted, b"NVT1")?;
+    hand_noting(writer, noted, &namespace_bytes(trace.geometry))?;
+    hand_noting(
         writer,
+        noted,
         &window_bytes(trace.first, trace.start, trace.reads, trace.deallocated),
     )
 }
@@ -101,52 +124,69 @@ fn deallocated_code(deallocated: Deallocated) -> u8
 }
 
 /// Writes how many jobs there are, and each of them.
-fn write_traced_jobs<W: Write>(writer: &mut W, jobs: &[TracedJob]) -> io::Result<()>
+fn write_traced_jobs<W: Write>(
+    writer: &mut W,
+    noted: &mut Option<io::Error>,
+    jobs: &[TracedJob],
+) -> Result<(), Noted>
     requires { length jobs.now < 2 ^ 32 }
     ensures whole { OnOk result (Appends (W.contents writer.old) (W.contents writer.new) (counted traced_bytes jobs.now)) }
     ensures front { OnErr result (TakesFront (W.contents writer.old) (W.contents writer.new) (counted traced_bytes jobs.now)) }
     ensures fit { OnOk result (All TracedJobFits jobs.now) }
 {
-    hand(writer, &count_bytes(jobs.len()))?;
+    hand_noting(writer, noted, &count_bytes(jobs.len()))?;
     for job in jobs {
-        write_traced_job(writer, job)?;
+        write_traced_job(writer, noted, job)?;
     }
     Ok(())
 }
 
 /// Writes a job, when it began, and how it ended.
-fn write_traced_job<W: Write>(writer: &mut W, job: &TracedJob) -> io::Result<()>
+fn write_traced_job<W: Write>(
+    writer: &mut W,
+    noted: &mut Option<io::Error>,
+    job: &TracedJob,
+) -> Result<(), Noted>
     ensures whole { OnOk result (Appends (W.contents writer.old) (W.contents writer.new) (traced_bytes job.now)) }
     ensures front { OnErr result (TakesFront (W.contents writer.old) (W.contents writer.new) (traced_bytes job.now)) }
     ensures fits { OnOk result (TracedJobFits job.now) }
 {
-    write_job(writer, &job.job)?;
-    hand(writer, &eight_bytes(job.began))?;
-    write_ended(writer, &job.ended)
+    write_job(writer, noted, &job.job)?;
+    hand_noting(writer, noted, &eight_bytes(job.began))?;
+    write_ended(writer, noted, &job.ended)
 }
 
 /// Writes when a job ended and what came back, or that its end wasn't seen.
-fn write_ended<W: Write>(writer: &mut W, ended: &Option<Ending>) -> io::Result<()>
+fn write_ended<W: Write>(
+    writer: &mut W,
+    noted: &mut Option<io::Error>,
+    ended: &Option<Ending>,
+) -> Result<(), Noted>
     ensures whole { OnOk result (Appends (W.contents writer.old) (W.contents writer.new) (ended_bytes ended.now)) }
     ensures front { OnErr result (TakesFront (W.contents writer.old) (W.contents writer.new) (ended_bytes ended.now)) }
     ensures fits { OnOk result (IfSome ended.now EndingFits) }
 {
     match ended {
-        None => hand(writer, &eight_bytes(NEVER)),
-        Some(ending) => write_ending(writer, ending),
+        None => hand_noting(writer, noted, &eight_bytes(NEVER)),
+        Some(ending) => write_ending(writer, noted, ending),
     }
 }
 
 /// Writes when a job ended, and what came back.
-fn write_ending<W: Write>(writer: &mut W, ending: &Ending) -> io::Result<()>
+fn write_ending<W: Write>(
+    writer: &mut W,
+    noted: &mut Option<io::Error>,
+    ending: &Ending,
+) -> Result<(), Noted>
     ensures whole { OnOk result (Appends (W.contents writer.old) (W.contents writer.new) (ending_bytes ending.now)) }
     ensures front { OnErr result (TakesFront (W.contents writer.old) (W.contents writer.new) (ending_bytes ending.now)) }
     ensures fits { OnOk result (EndingFits ending.now) }
 {
     if ending.time == NEVER {
-        return Err(io::Error::from(ErrorKind::InvalidInput));
+        *noted = Some(io::Error::from(ErrorKind::InvalidInput));
+        return Err(Noted);
     }
-    hand(writer, &eight_bytes(ending.time))?;
-    write_statuses(writer, ending.statuses)?;
-    write_payload(writer, &ending.payload)
+    hand_noting(writer, noted, &eight_bytes(ending.time))?;
+    write_statuses(writer, noted, ending.statuses)?;
+    write_payload(writer, noted, &ending.payload)
 }

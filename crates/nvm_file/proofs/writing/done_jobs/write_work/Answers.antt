@@ -8,11 +8,11 @@ use Rattle.nvm_file.specs.Fits.{DoneFits}
 use Rattle.nvm_file.specs.WorkSpelling.{done_bytes}
 use Rattle.nvm_file.proofs.writing.done_jobs.write_work.Goals as goal
 
-pub returns-in_err-hand-clause-front : goal.returns-in_err-hand-clause-front
-returns-in_err-hand-clause-front g c =
+pub returns-in_err-hand_noting-clause-front : goal.returns-in_err-hand_noting-clause-front
+returns-in_err-hand_noting-clause-front g c =
     let work = c.args.work.now in
     within c.from_residual.result _ _ _ (little_bytes 4 (length work)) (flat_map done_bytes work) c.count_bytes.ensures
-    c.in_err-hand.ensures.front
+    c.in_err-hand_noting.ensures.front
 
 pub returns-in_err-write_done-clause-front : goal.returns-in_err-write_done-clause-front
 returns-in_err-write_done-clause-front g c =

@@ -6,11 +6,11 @@ use Rattle.nvm_text.proofs.Taking.{within, loop_front, loop_next}
 use Rattle.nvm_file.specs.EntrySpelling.{entry_bytes}
 use Rattle.nvm_file.proofs.writing.entries.write_history.Goals as goal
 
-pub returns-in_err-hand-clause-front : goal.returns-in_err-hand-clause-front
-returns-in_err-hand-clause-front g c =
+pub returns-in_err-hand_noting-clause-front : goal.returns-in_err-hand_noting-clause-front
+returns-in_err-hand_noting-clause-front g c =
     let history = c.args.history.now in
     within c.from_residual.result _ _ _ (little_bytes 4 (length history)) (flat_map entry_bytes history) c.count_bytes.ensures
-    c.in_err-hand.ensures.front
+    c.in_err-hand_noting.ensures.front
 
 pub returns-in_err-write_entry-clause-front : goal.returns-in_err-write_entry-clause-front
 returns-in_err-write_entry-clause-front g c =

@@ -8,21 +8,21 @@ use Rattle.nvm_file.specs.EntrySpelling.{cut_bytes}
 use Rattle.nvm_file.proofs.CutRanges.{next_range, all_ranges}
 use Rattle.nvm_file.proofs.writing.entries.write_ranges.Goals as goal
 
-pub returns-in_err-hand-clause-front : goal.returns-in_err-hand-clause-front
-returns-in_err-hand-clause-front g c =
+pub returns-in_err-hand_noting-clause-front : goal.returns-in_err-hand_noting-clause-front
+returns-in_err-hand_noting-clause-front g c =
     let payload = c.args.payload.now in
     within c.from_residual.result _ _ _ (little_bytes 2 (range_count payload)) (flat_map cut_bytes (ranges_of payload))
-    (c.two_bytes.ensures ∙ ap (little_bytes 2) c.range_count-count.ensures) c.in_err-hand.ensures.front
+    (c.two_bytes.ensures ∙ ap (little_bytes 2) c.range_count-count.ensures) c.in_err-hand_noting.ensures.front
 
-pub returns-in_err-hand-2-clause-front : goal.returns-in_err-hand-2-clause-front
-returns-in_err-hand-2-clause-front g c =
+pub returns-in_err-hand_noting-2-clause-front : goal.returns-in_err-hand_noting-2-clause-front
+returns-in_err-hand_noting-2-clause-front g c =
     let payload = c.args.payload.now in
     let i = c.loop-place.place in
     let below : i < range_count payload = search rules in
     let is : c.extent_bytes.result ≡ cut_bytes (range_at payload i) = c.extent_bytes.ensures ∙ ap cut_bytes c.at-range.ensures in
     let done = flat_map cut_bytes (take i (ranges_of payload)) in
-    loop_front c.from_residual-in_err-hand-2.result cut_bytes (ranges_of payload) i _ _ _ (little_bytes 2 (range_count payload))
-    c.extent_bytes.result (next_range payload i below ∙ ap (λ l. done ++ l) (sym is)) c.loop-place.invariant c.in_err-hand-2.ensures.front
+    loop_front c.from_residual-in_err-hand_noting-2.result cut_bytes (ranges_of payload) i _ _ _ (little_bytes 2 (range_count payload))
+    c.extent_bytes.result (next_range payload i below ∙ ap (λ l. done ++ l) (sym is)) c.loop-place.invariant c.in_err-hand_noting-2.ensures.front
 
 pub loop-place-preserved : goal.loop-place-preserved
 loop-place-preserved g c =
@@ -32,7 +32,7 @@ loop-place-preserved g c =
     let is : c.extent_bytes.result ≡ cut_bytes (range_at payload i) = c.extent_bytes.ensures ∙ ap cut_bytes c.at-range.ensures in
     let done = flat_map cut_bytes (take i (ranges_of payload)) in
     loop_next cut_bytes (ranges_of payload) i _ _ _ (little_bytes 2 (range_count payload))
-    c.extent_bytes.result (next_range payload i below ∙ ap (λ l. done ++ l) (sym is)) c.loop-place.invariant c.in_ok-hand-2.ensures.whole
+    c.extent_bytes.result (next_range payload i below ∙ ap (λ l. done ++ l) (sym is)) c.loop-place.invariant c.in_ok-hand_noting-2.ensures.whole
 
 pub returns-clause-whole : goal.returns-clause-whole
 returns-clause-whole g c =

@@ -11,14 +11,14 @@ returns-in_err-write_job-clause-front g c =
     within c.from_residual.result _ _ _ (job_bytes j.job) (little_bytes 8 j.began ++ ended_bytes j.ended) refl
     c.in_err-write_job.ensures.front
 
-pub returns-in_err-hand-clause-front : goal.returns-in_err-hand-clause-front
-returns-in_err-hand-clause-front g c =
+pub returns-in_err-hand_noting-clause-front : goal.returns-in_err-hand_noting-clause-front
+returns-in_err-hand_noting-clause-front g c =
     let j = c.args.job.now in
     let began = little_bytes 8 j.began in
     let ended = ended_bytes j.ended in
-    on_err c.from_residual-in_err-hand.result
+    on_err c.from_residual-in_err-hand_noting.result
     (behind _ _ _ _ (job_bytes j.job) (began ++ ended) refl c.in_ok-write_job.ensures.whole
-    (first_of _ _ _ began ended c.eight_bytes.ensures c.in_err-hand.ensures.front))
+    (first_of _ _ _ began ended c.eight_bytes.ensures c.in_err-hand_noting.ensures.front))
 
 pub returns-clause-front : goal.returns-clause-front
 returns-clause-front g c =
@@ -27,4 +27,4 @@ returns-clause-front g c =
     let ended = ended_bytes j.ended in
     on_err_then c.write_ended.result (λ failed.
     behind _ _ _ _ (job_bytes j.job) (began ++ ended) refl c.in_ok-write_job.ensures.whole
-    (behind _ _ _ _ began ended c.eight_bytes.ensures c.in_ok-hand.ensures.whole failed)) c.write_ended.ensures.front
+    (behind _ _ _ _ began ended c.eight_bytes.ensures c.in_ok-hand_noting.ensures.whole failed)) c.write_ended.ensures.front

@@ -8,11 +8,11 @@ use Rattle.nvm_file.specs.TraceFits.{TracedJobFits}
 use Rattle.nvm_file.specs.TraceSpelling.{traced_bytes}
 use Rattle.nvm_file.proofs.writing.traces.write_traced_jobs.Goals as goal
 
-pub returns-in_err-hand-clause-front : goal.returns-in_err-hand-clause-front
-returns-in_err-hand-clause-front g c =
+pub returns-in_err-hand_noting-clause-front : goal.returns-in_err-hand_noting-clause-front
+returns-in_err-hand_noting-clause-front g c =
     let jobs = c.args.jobs.now in
     within c.from_residual.result _ _ _ (little_bytes 4 (length jobs)) (flat_map traced_bytes jobs) c.count_bytes.ensures
-    c.in_err-hand.ensures.front
+    c.in_err-hand_noting.ensures.front
 
 pub returns-in_err-write_traced_job-clause-front : goal.returns-in_err-write_traced_job-clause-front
 returns-in_err-write_traced_job-clause-front g c =

@@ -2,7 +2,7 @@ use Rattle.std.proofs.Common.{List, ℕ, OnErr, subst, refl, take, drop, take-ap
 use Rattle.std.proofs.lemmas.List.{take_rest}
 use Rattle.nvm_text.specs.Handed.{TakesFront}
 use Rattle.nvm_text.proofs.Taking.{then_front}
-use Rattle.nvm_text.proofs.handing.hand.Goals as goal
+use Rattle.nvm_text.proofs.handing.hand_noting.Goals as goal
 
 pub returns-in-Ok-2-clause-front : goal.returns-in-Ok-2-clause-front
 returns-in-Ok-2-clause-front g c =

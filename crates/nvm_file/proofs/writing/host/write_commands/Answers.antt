@@ -5,7 +5,7 @@ use Rattle.std.proofs.lemmas.List.Concat.{flat_map-append, flat_map-cons}
 use Rattle.nvm_record.specs.Entry.{spelling_of}
 use Rattle.nvm_record.specs.HostFile.{file_name}
 use Rattle.nvm_text.proofs.Taking.{within, loop_front, loop_next}
-use Rattle.nvm_file.proofs.writing.host.write_host.Goals as goal
+use Rattle.nvm_file.proofs.writing.host.write_commands.Goals as goal
 
 -- the bytes of one item more
 next_of : {T : Type 0} (f : T → List ℕ) (xs : List T) (i : ℕ) (x : T) → i < length xs → x ≡ get_or xs i x
@@ -14,9 +14,9 @@ next_of f xs i x below is =
     ap (flat_map f) (take_more xs i x below ∙ ap (λ y. take i xs ++ y ∷ []) (sym is)) ∙ flat_map-append f (take i xs) (x ∷ [])
     ∙ ap (λ l. flat_map f (take i xs) ++ l) (flat_map-cons f x [] ∙ append-nil (f x))
 
-pub returns-in_err-hand-clause-front : goal.returns-in_err-hand-clause-front
-returns-in_err-hand-clause-front g c =
-    within c.from_residual.result _ _ _ file_name (flat_map spelling_of c.args.commands.now) refl c.in_err-hand.ensures.front
+pub returns-in_err-hand_noting-clause-front : goal.returns-in_err-hand_noting-clause-front
+returns-in_err-hand_noting-clause-front g c =
+    within c.from_residual.result _ _ _ file_name (flat_map spelling_of c.args.commands.now) refl c.in_err-hand_noting.ensures.front
 
 pub returns-in_err-write_command-clause-front : goal.returns-in_err-write_command-clause-front
 returns-in_err-write_command-clause-front g c =

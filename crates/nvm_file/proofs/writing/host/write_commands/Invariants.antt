@@ -3,7 +3,7 @@ use Rattle.std.specs.Io.KnownBytes.{Appends}
 use Rattle.std.specs.List.{flat_map}
 use Rattle.nvm_record.specs.Entry.{spelling_of}
 use Rattle.nvm_record.specs.HostFile.{file_name}
-use Rattle.nvm_file.proofs.writing.host.write_host.Given as goal
+use Rattle.nvm_file.proofs.writing.host.write_commands.Given as goal
 
 abbrev pub invariant-loop-command : goal.invariant-loop-command
 invariant-loop-command g l =
