@@ -1,4 +1,4 @@
-use nvm_plan::Part;
+use nvm_plan::Parts;
 use nvm_record::{ReadData, Statuses};
 use std::marker::Model;
 
@@ -10,7 +10,7 @@ pub struct DoneJob {
     /// The job's number: its place in the list of jobs.
     pub job: u32,
     /// The parts that were done, in the order of their units.
-    pub parts: Vec<Part>,
+    pub parts: Parts,
     /// One status, or the two of a fused pair.
     pub statuses: Statuses,
     /// The data of a Read of status 0/00.

@@ -29,9 +29,10 @@ fn gather_job<'a>(
 ) -> Result<(), NoMemory>
     ensures { OnOk result (parts.new.items ≡ parts.old.items ++ naming unit (parts_left worker done.now done.now.parts)) }
 {
-    let count = done.parts.len();
+    let all = done.parts.as_slice();
+    let count = all.len();
     for i in 0..count {
-        let part = done.parts[i];
+        let part = all[i];
         if part.unit == unit {
             parts.push(part_of(worker, done, part, i + 1 == count))?;
         }

@@ -44,9 +44,10 @@ fn put_job<'a>(
         → AreGrouped units parts (map (λ group. group.items) groups.old.items)
         → AreGrouped units (parts ++ parts_left worker done.now done.now.parts) (map (λ group. group.items) groups.new.items)) }
 {
-    let count = done.parts.len();
+    let parts = done.parts.as_slice();
+    let count = parts.len();
     for i in 0..count {
-        put(part_of(worker, done, done.parts[i], i + 1 == count), groups)?;
+        put(part_of(worker, done, parts[i], i + 1 == count), groups)?;
     }
     Ok(())
 }

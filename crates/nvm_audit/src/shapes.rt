@@ -175,7 +175,7 @@ pub(crate) fn has_shape(geometry: &Geometry, job: &Job, done: &DoneJob) -> bool
             done.parts.is_empty() && done.statuses == refusal && done.payload.is_none()
         }
         Plan::Ready => {
-            has_ending(geometry, job, &done.parts, done.statuses)
+            has_ending(geometry, job, done.parts.as_slice(), done.statuses)
                 && done.payload.is_some() == gives_data(&job.body, done.statuses)
         }
     }

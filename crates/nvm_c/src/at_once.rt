@@ -33,7 +33,7 @@ use crate::log::draw;
 use crate::quiet::Quiet;
 use crate::telling::tell;
 use crate::waiting::WaitingJob;
-use nvm_plan::{BodyFields, Completions, LentPart};
+use nvm_plan::{BodyFields, Completions, LentPart, Parts};
 use nvm_record::{BlockSize, Completion, EntryFields, Fuse, Op, PayloadRef, Status, Statuses};
 use nvm_space::{JobDone, Port, Space};
 use nvm_unit::Count;
@@ -283,7 +283,7 @@ fn job_done(alloc: Global, host: u16, fields: BodyFields, statuses: Statuses) ->
     };
     JobDone {
         completions,
-        parts: Vec::new(alloc),
+        parts: Parts::new(alloc),
     }
 }
 

@@ -206,7 +206,7 @@ fn deeds_can_be_held(geometry: Geometry, job: &Job, did: &DoneJob) -> bool
     if did.parts.len() > usize::from(geometry.units()) {
         return false;
     }
-    if !lie_in_units(geometry, &did.parts) {
+    if !lie_in_units(geometry, did.parts.as_slice()) {
         return false;
     }
     if !are_for_each(&job.body, did.statuses) {
@@ -216,22 +216,15 @@ fn deeds_can_be_held(geometry: Geometry, job: &Job, did: &DoneJob) -> bool
 }
 
 /// Whether each part is in a unit of the namespace.
-fn lie_in_units(geometry: Geometry, parts: &Vec<Part>) -> bool
-    ensures { IsTrue result → All (λ part. part.unit < units_of geometry) parts.now.items }
+fn lie_in_units(geometry: Geometry, parts: &[Part]) -> bool
+    ensures { IsTrue result → All (λ part. part.unit < units_of geometry) parts.now }
 {
-    for i in 0..parts.len() {
-        if !lies_in_unit(geometry, &parts[i]) {
+    for part in parts {
+        if part.unit >= geometry.units() {
             return false;
         }
     }
     true
-}
-
-/// Whether the part is in a unit of the namespace.
-fn lies_in_unit(geometry: Geometry, part: &Part) -> bool
-    ensures { IsTrue result → part.now.unit < units_of geometry }
-{
-    part.unit < geometry.units()
 }
 
 /// Whether there is a status for each command.

@@ -77,7 +77,7 @@ fn changes_of(
 
 /// Adds the changes that were made of a job.
 fn add_changes(changes: &mut Vec<Vec<Change>>, pass: usize, did: &DoneJob) -> Result<(), NoMemory> {
-    for part in &did.parts {
+    for part in did.parts.as_slice() {
         let unit = usize::from(part.unit);
         if part.result == PartResult::Done && unit < changes.len() {
             changes[unit].push(Change {

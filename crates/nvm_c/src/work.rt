@@ -10,7 +10,7 @@ use crate::record_code::RecordCode;
 use crate::sharing::share_reads;
 use nvm_audit::DoneJob;
 use nvm_geometry::Geometry;
-use nvm_plan::Job;
+use nvm_plan::{Job, Parts};
 use nvm_record::NoMemory;
 use nvm_store::Limit;
 use std::alloc::Global;
@@ -216,7 +216,7 @@ fn copies(alloc: Global, done: &Vec<DoneJob>) -> Result<Vec<DoneJob>, NoMemory>
 fn copy_of(alloc: Global, done: &DoneJob) -> Result<DoneJob, NoMemory>
     ensures { IfOk result (λ copy. copy ≡ done.now) }
 {
-    let parts = Vec::from_slice(alloc, &done.parts)?;
+    let parts = Parts::from_slice(alloc, done.parts.as_slice())?;
     let payload = done.payload.clone()?;
     Ok(DoneJob {
         job: done.job,

@@ -31,7 +31,7 @@ use std::thread::Threads;
 /// the settings say, and says what to show: the run's record, which is lawful, and its text with the verdict of an audit.
 ///
 /// The gate is notified of the course of the jobs. A job that finds no memory ends with 0/06 and has its lines as any other; a pair
-/// ends with 0/06 and 0/09 before its part, and with 0/00 and 0/06 in it.
+/// ends with 0/00 and 0/06.
 ///
 /// The first fault is returned: more than 64 files, then one of the settings, then one of a file, or
 /// `NoMemory` where a growth outside a command was refused. All workers have ended then, and nothing is shown.

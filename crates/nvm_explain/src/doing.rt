@@ -34,7 +34,7 @@ pub(crate) fn part_of(done: &DoneJob, unit: u16) -> Option<DonePart>
     ensures is { result ≡ spec.part_of_done unit done.now }
     ensures there { IfSome result (λ found. found.part.unit ≡ unit) }
 {
-    for (place, part) in done.parts.iter().enumerate() {
+    for (place, part) in done.parts.as_slice().iter().enumerate() {
         if part.unit == unit {
             let is_last = place + 1 == done.parts.len();
             let statuses = if is_last {

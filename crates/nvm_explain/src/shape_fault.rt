@@ -74,7 +74,7 @@ pub(crate) fn shape_fault(geometry: &Geometry, job: &Job, done: &DoneJob) -> Opt
 fn refused_fault(refusal: Statuses, done: &DoneJob) -> Option<ShapeFault>
     ensures { result ≡ spec.refused_fault refusal done.now }
 {
-    if let Some(part) = done.parts.first() {
+    if let Some(part) = done.parts.as_slice().first() {
         return Some(ShapeFault::UnitWrong {
             unit: part.unit,
             due: None,
@@ -101,7 +101,7 @@ fn ready_fault(geometry: &Geometry, job: &Job, done: &DoneJob) -> Option<ShapeFa
     parts_of_jobs();
     let kind = Kind::of(&job.body);
     let mut units = ready_job_units(geometry, job);
-    if let Some(fault) = ending_fault(kind, &mut units, &done.parts, done.statuses) {
+    if let Some(fault) = ending_fault(kind, &mut units, done.parts.as_slice(), done.statuses) {
         return Some(fault);
     }
     let has_data = is_read(&job.body) && done.statuses.is_success();

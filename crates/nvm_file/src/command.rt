@@ -66,6 +66,7 @@ fn follows(command: &Command, nr: u8, size: BlockSize) -> bool
 
 /// The entry of a command.
 #[tactic(auto, unfolding(crate::specs::CommandReading::submission_at, crate::specs::Fields::bytes_at))]
+#[inline(always)]
 fn submission_of(
     total: usize,
     version: Version,

@@ -14,7 +14,7 @@ use crate::record_fault::RecordFault;
 use crate::rest::Rest;
 use nvm_audit::{DoneJob, MOST_JOBS};
 use nvm_geometry::Geometry;
-use nvm_plan::{Body, Job, Part, PartResult, Plan, plan};
+use nvm_plan::{Body, Job, Part, PartResult, Parts, Plan, plan};
 use nvm_record::{Op, ReadData, Status, Statuses};
 use std::alloc::Global;
 
@@ -118,14 +118,30 @@ fn parts_of<'a>(
     alloc: Global,
     frame: &Frame,
     rest: Rest<'a>,
-) -> Result<(Vec<Part>, Rest<'a>), RecordFault>
+) -> Result<(Parts, Rest<'a>), RecordFault>
     ensures { Gives (λ x. (x.0.items, left_of x.1)) result (parts_at frame.now (left_of rest.entry)) }
 {
     let (count, rest) = u16_in(frame.total, 0, frame.geometry.units(), rest)?;
-    some_parts_of(alloc, frame, count, rest)
+    counted_parts_of(alloc, frame, count, rest)
 }
 
-/// So many parts.
+/// So many parts. A single one takes no memory.
+fn counted_parts_of<'a>(
+    alloc: Global,
+    frame: &Frame,
+    count: u16,
+    from: Rest<'a>,
+) -> Result<(Parts, Rest<'a>), RecordFault>
+    ensures { Gives (λ x. (x.0.items, left_of x.1)) result (items_at (λ _. part_at frame.now) 0 count (left_of from.entry)) }
+{
+    if count == 1 {
+        return one_part_of(alloc, frame, from);
+    }
+    let (parts, rest) = some_parts_of(alloc, frame, count, from)?;
+    Ok((Parts::from_vec(parts), rest))
+}
+
+/// So many parts, in memory.
 fn some_parts_of<'a>(
     alloc: Global,
     frame: &Frame,
@@ -141,6 +157,25 @@ fn some_parts_of<'a>(
         from,
         |_, rest| part_of(frame, rest),
     )
+}
+
+/// One part, which takes no memory.
+#[inline(always)]
+fn one_part_of<'a>(
+    alloc: Global,
+    frame: &Frame,
+    from: Rest<'a>,
+) -> Result<(Parts, Rest<'a>), RecordFault>
+    ensures { Gives (λ x. (x.0.items, left_of x.1)) result (items_at (λ _. part_at frame.now) 0 1 (left_of from.entry)) }
+{
+    match part_of(frame, from) {
+        Ok((part, rest)) => {
+            let mut parts = Parts::new(alloc);
+            parts.push_reserved(part);
+            Ok((parts, rest))
+        }
+        Err(fault) => Err(fault),
+    }
 }
 
 /// A part: its unit, its point, and how it ended.

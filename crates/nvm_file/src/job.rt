@@ -64,6 +64,7 @@ pub fn job_of<'a>(scope: &Scope, rest: Rest<'a>) -> Result<(Job, Rest<'a>), Reco
 }
 
 /// What the kind says: 0 is a command by itself, and 1 a pair.
+#[inline(always)]
 fn body_of<'a>(kind: u8, scope: &Scope, rest: Rest<'a>) -> Result<(Body, Rest<'a>), RecordFault>
     ensures { Gives (λ x. (x.0, left_of x.1)) result (spec.body_at kind scope.now (left_of rest.entry)) }
 {

@@ -160,7 +160,7 @@ pub fn push_done(text: &mut String, worker: usize, done: &DoneJob) -> Result<(),
     let job = done.job;
     let statuses = StatusesText(done.statuses);
     write!(text, "worker {worker} job {job} status {statuses}\n")?;
-    for part in &done.parts {
+    for part in done.parts.as_slice() {
         push_part(text, worker, job, *part)?;
     }
     match &done.payload {

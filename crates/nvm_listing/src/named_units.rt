@@ -28,7 +28,7 @@ fn name_units_of_work(named: &mut Vec<bool>, work: &[DoneJob])
     ensures { named.new.items ≡ spec.named_by_work work.now named.old.items }
 {
     for job in work {
-        name_units(named, &job.parts);
+        name_units(named, job.parts.as_slice());
     }
 }
 

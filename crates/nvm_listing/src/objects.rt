@@ -168,7 +168,7 @@ fn push_done(text: &mut String, worker: usize, done: &DoneJob) -> Result<(), NoM
         "{{\"worker\":{worker},\"job\":{job},\"statuses\":[{statuses}],\"parts\":["
     )?;
     let mut comma = "";
-    for part in &done.parts {
+    for part in done.parts.as_slice() {
         text.push_str(comma)?;
         push_part(text, *part)?;
         comma = ",";

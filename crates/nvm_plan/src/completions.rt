@@ -19,6 +19,7 @@ impl Completions {
 
     /// The completions of a job that ended with these statuses, one for each of its commands, and this data. A
     /// command by itself has the data, the commands of a pair have none. It takes no memory.
+    #[inline(always)]
     pub fn of(job: &Job, statuses: Statuses, payload: Option<ReadData>) -> Completions
         requires { IsForEach job.now.body statuses }
         ensures { result ≡ completions_of job.now statuses payload }

@@ -38,7 +38,7 @@ pub use job::{Body, Job};
 pub use job_list::jobs;
 pub use kind::{Kind, is_read};
 pub use lent_part::{LentPart, job_part_in, job_part_there, part_at};
-pub use part::{Part, PartResult};
+pub use part::{Part, PartResult, Parts};
 pub use place::unit_place;
 pub use reached::{first_reached, next_reached};
 pub use units::{JobUnits, job_part_count, job_units, ready_job_units, ready_part_count};

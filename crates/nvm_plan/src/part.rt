@@ -1,5 +1,10 @@
+use smallvec::SmallVec;
+
+/// The parts of a job that were done. A single one takes no memory.
+pub type Parts = SmallVec<Part, 1>;
+
 /// What a job did in one unit.
-#[derive(Clone, Copy, Debug, PartialEq, Eq)]
+#[derive(Clone, Copy, Debug, Default, PartialEq, Eq)]
 pub struct Part {
     /// The number of the unit.
     pub unit: u16,
@@ -11,9 +16,10 @@ pub struct Part {
 }
 
 /// How a part ended.
-#[derive(Clone, Copy, Debug, PartialEq, Eq, Hash)]
+#[derive(Clone, Copy, Debug, Default, PartialEq, Eq, Hash)]
 pub enum PartResult {
     /// The change was made.
+    #[default]
     Done,
     /// The comparison of a fused pair failed, and nothing was changed.
     Failed,

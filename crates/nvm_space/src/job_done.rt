@@ -6,7 +6,7 @@ ghost use Rattle.nvm_plan.specs.Operation.{job_operation_of};
 ghost use Rattle.nvm_plan.specs.Outcome.{answered, unstarted_of};
 ghost use Rattle.std.specs.Prelude.{[], None};
 
-use nvm_plan::{Body, Completions, Job, Part};
+use nvm_plan::{Body, Completions, Job, Parts};
 use nvm_record::{Op, ReadData, Status, Statuses};
 use std::alloc::Global;
 
@@ -16,7 +16,7 @@ pub struct JobDone {
     /// What is reported to its host: one completion, or two of a fused pair.
     pub completions: Completions,
     /// The parts that were done, in the order of their units. Always empty in a space without a limit.
-    pub parts: Vec<Part>,
+    pub parts: Parts,
 }
 
 impl JobDone {
@@ -29,7 +29,7 @@ impl JobDone {
         job: &Job,
         statuses: Statuses,
         payload: Option<ReadData>,
-        parts: Vec<Part>,
+        parts: Parts,
     ) -> JobDone
         requires { IsForEach job.now.body statuses }
         ensures { job_ended job.now statuses payload parts.items result }
@@ -42,7 +42,7 @@ impl JobDone {
 
     /// A job whose parts were all done with success, where `bytes` are what they read.
     #[inline(always)]
-    pub(crate) fn of_success(job: &Job, bytes: Vec<u8>, parts: Vec<Part>) -> JobDone
+    pub(crate) fn of_success(job: &Job, bytes: Vec<u8>, parts: Parts) -> JobDone
         ensures { (ns : Namespace) (op : Operation) → job_operation_of ns job.now ≡ Some op
             → job_ended job.now (success_of op.deed) (answered op.deed bytes.items) parts.items result }
     {
@@ -81,6 +81,6 @@ impl JobDone {
                 Status::ABORTED_DUE_TO_FAILED_FUSED_COMMAND,
             ),
         };
-        JobDone::of(job, statuses, None, Vec::new(alloc))
+        JobDone::of(job, statuses, None, Parts::new(alloc))
     }
 }

@@ -37,7 +37,7 @@ impl<K: Kept> Space<K> {
     /// which the entries bear that it makes. Each part is one step of its region; the parts are done in the order
     /// of the units, up to the first that doesn't succeed.
     ///
-    /// A job that is refused, or has no parts, takes no memory. Any other asks for the memory of its list of parts
+    /// A job that is refused, or has no parts, takes no memory. One of several parts asks for the memory of its list of parts
     /// before its first part, where parts are listed, and a Read over several units for that of its data; where it is refused,
     /// nothing is done. It waits for the regions.
     pub fn run_job<R: Wait, G: Gate>(

@@ -1,5 +1,6 @@
 //! A job that is done without waiting: begun, gone on with as far as the regions are free, and done.
-ghost use Rattle.std.specs.Prelude.{◌≡◌, ◌<◌, ◌^◌, ℕ, Bool, true, List, [], is_some, length, vec_capacity, vec_len, Some, None, IfOk};
+ghost use Rattle.std.specs.Prelude.{◌≡◌, ◌<◌, ◌^◌, ℕ, Bool, true, List, [], is_some, length, Some, None, IfOk};
+ghost use Rattle.smallvec.specs.SmallVec.{HasRoomFor};
 ghost use Rattle.nvm_record.specs.declared.status.Statuses.{Statuses as Told};
 ghost use Rattle.nvm_geometry.specs.Large.{region_of, regions_of};
 ghost use Rattle.nvm_geometry.specs.Namespace.{Namespace};
@@ -30,8 +31,8 @@ use nvm_plan::laws::{
     outcomes_by_plan, parts_of_jobs, ready_jobs,
 };
 use nvm_plan::{
-    Body, Job, LentPart, Part, PartResult, first_reached, next_reached, part_at, ready_part_count,
-    refusal,
+    Body, Job, LentPart, Part, PartResult, Parts, first_reached, next_reached, part_at,
+    ready_part_count, refusal,
 };
 use nvm_record::{NoMemory, Op};
 use std::alloc::Global;
@@ -47,13 +48,12 @@ pub struct JobUnderWay {
     /// The lowest LBA of the next part, which the job reaches.
     lba: u64,
     /// The parts that were done, with room for all that are left, where they are listed.
-    parts: Vec<Part>,
+    parts: Parts,
     /// What they read.
     bytes: Vec<u8>,
 }
 
 impl Model for JobUnderWay {
-    ghost use Rattle.std.specs.Prelude.{vec_capacity};
     ghost use Rattle.nvm_space.specs.Trace.{part_ended};
     ghost use Rattle.nvm_space.specs.UnderWay.{UnderWay};
 
@@ -64,7 +64,7 @@ impl Model for JobUnderWay {
       lba = w.lba;
       parts = w.parts.items;
       bytes = w.bytes.items;
-      room = vec_capacity w.parts;
+      room = w.parts.capacity;
     } };
 }
 
@@ -77,7 +77,7 @@ pub enum Progress {
     Pending(JobUnderWay),
 }
 
-/// Begins a job: refuses it, or asks for the memory of its list of parts, where they are listed, and of its data. No part is
+/// Begins a job: refuses it, or asks for the memory of its list of parts, where several are listed, and of its data. No part is
 /// done.
 pub(crate) fn begin(
     alloc: Global,
@@ -96,16 +96,16 @@ pub(crate) fn begin(
     parts_of_jobs();
     laws::ranges_meet_their_units();
     if let Some(statuses) = refusal(geometry, job) {
-        return Progress::Done(JobDone::of(job, statuses, None, Vec::new(alloc)));
+        return Progress::Done(JobDone::of(job, statuses, None, Parts::new(alloc)));
     }
     let Some(lba) = first_reached(geometry, job) else {
-        return Progress::Done(JobDone::of_success(job, Vec::new(alloc), Vec::new(alloc)));
+        return Progress::Done(JobDone::of_success(job, Vec::new(alloc), Parts::new(alloc)));
     };
     let count = match &recorded {
         Some(recorded) => ready_part_count(&recorded.geometry, job),
         None => 0,
     };
-    let Ok(parts) = Vec::with_capacity(alloc, usize::from(count)) else {
+    let Ok(parts) = Parts::with_capacity(alloc, usize::from(count)) else {
         return Progress::Done(JobDone::of_no_part(alloc, job));
     };
     let Ok(bytes) = room(alloc, geometry, job) else {
@@ -191,11 +191,11 @@ impl JobUnderWay {
 }
 
 /// Lists a part that was done, where parts are listed.
-fn list_part(lists: bool, parts: &mut Vec<Part>, unit: u16, point: u64, ended: PartResult)
+fn list_part(lists: bool, parts: &mut Parts, unit: u16, point: u64, ended: PartResult)
     requires few { lists ≡ true → point < 2 ^ 32 }
-    requires room { lists ≡ true → vec_len parts.old < vec_capacity parts.old }
+    requires room { lists ≡ true → HasRoomFor parts.old 1 }
     ensures items { parts.new.items ≡ with_part lists parts.old.items (part_ended unit point ended) }
-    ensures capacity { vec_capacity parts.new ≡ vec_capacity parts.old }
+    ensures capacity { parts.new.capacity ≡ parts.old.capacity }
 {
     if lists {
         parts.push_reserved(Part {

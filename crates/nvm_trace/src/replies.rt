@@ -17,8 +17,8 @@ use nvm_plan::{Part, PartResult};
 use nvm_record::{BlockSize, ReadData};
 
 /// Whether none of the parts made an entry.
-fn made_no_entry(parts: &Vec<Part>) -> bool
-    ensures { IsTrue result ↔ All (λ part. part.result ≢ Done) parts.now.items }
+fn made_no_entry(parts: &[Part]) -> bool
+    ensures { IsTrue result ↔ All (λ part. part.result ≢ Done) parts.now }
 {
     for part in parts {
         if part.result == PartResult::Done {
@@ -59,7 +59,7 @@ fn has_reply(geometry: &Geometry, owner: &Owner<'_>, done: &DoneJob, ending: &En
 fn agrees(geometry: &Geometry, owner: &Owner<'_>, done: &DoneJob) -> bool
     ensures { IsTrue result ↔ AgreesWith geometry.now (piece owner.now.whole.now owner.now.cut) done.now }
 {
-    if says_nothing_was_written(owner.whole) && !made_no_entry(&done.parts) {
+    if says_nothing_was_written(owner.whole) && !made_no_entry(done.parts.as_slice()) {
         return false;
     }
     match &owner.whole.ended {

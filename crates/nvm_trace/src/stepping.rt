@@ -56,8 +56,9 @@ fn put_job(owners: &Vec<Owner<'_>>, done: &DoneJob, steps: &mut Vec<Step>) -> Re
     ensures { OnOk result (steps.new.items ≡ steps.old.items ++ steps_of_job (map (λ o. o.whole.now) owners.now.items) done.now) }
 {
     let times = times_of(owners, done.job);
-    for i in 0..done.parts.len() {
-        put_part(times, done.job, done.parts[i], steps)?;
+    let parts = done.parts.as_slice();
+    for i in 0..parts.len() {
+        put_part(times, done.job, parts[i], steps)?;
     }
     Ok(())
 }

@@ -17,7 +17,7 @@ pub fn done_text(alloc: Global, done: &JobDone) -> Result<String, RowFault> {
         ),
     };
     let mut text = format!(in alloc; "{}", StatusesText(statuses))?;
-    for part in &done.parts {
+    for part in done.parts.as_slice() {
         let (unit, point, ended) = (part.unit, part.point, result_word(part.result));
         write!(text, "; unit {unit} at {point} {ended}")?;
     }

@@ -6,7 +6,7 @@ ghost use Rattle.nvm_space.specs.Ports.{IsPortOf};
 use crate::holding::{Failure, Holding, NO_MEMORY};
 use nvm_geometry::Geometry;
 use nvm_list::command_of_words;
-use nvm_plan::{Body, Completions, Job, Part, PartResult, fits};
+use nvm_plan::{Body, Completions, Job, Part, PartResult, Parts, fits};
 use nvm_record::{BlockSize, Status};
 use nvm_space::{JobDone, Port, Progress, Space};
 use nvm_store::Limit;
@@ -42,7 +42,7 @@ fn job_of(alloc: Global, words: &[u8]) -> Result<Job, Failure> {
 }
 
 /// The parts of the job, for which there must be memory.
-fn parts_of(done: JobDone) -> Result<Vec<Part>, Failure> {
+fn parts_of(done: JobDone) -> Result<Parts, Failure> {
     let JobDone { completions, parts } = done;
     if is_success(&completions) {
         Ok(parts)
@@ -73,7 +73,7 @@ fn work<R: Wait>(
     space: &Space,
     port: Port,
     gate: &Holding,
-) -> Result<Vec<Part>, Failure>
+) -> Result<Parts, Failure>
     requires { IsPortOf space.now port }
 {
     let mut port = port;
@@ -102,7 +102,7 @@ fn poll_twice(
     port: &mut Port,
     job: &Job,
     gate: &Holding,
-) -> Result<Vec<Part>, Failure>
+) -> Result<Parts, Failure>
     requires of { IsPortOf space.now port.old }
     requires fits { FitsNamespace space.now.namespace job.now }
 {
@@ -138,14 +138,13 @@ fn a_polled_job_goes_on_where_it_waited(rt: HostRuntime) -> Result<(), Fail> {
     let answers = map_vec(
         &rt,
         ports,
-        &|port: Port| -> Result<Vec<Part>, Failure>
+        &|port: Port| -> Result<Parts, Failure>
             requires { IsPortOf shared.now port }
         { work(&rt, alloc, shared, port, &gate) },
     )?;
     let mut parts = Vec::new(alloc);
     for answer in answers {
-        let mut of_job = answer?;
-        parts.append(&mut of_job)?;
+        parts.extend_from_slice(answer?.as_slice())?;
     }
     let wanted = [done_at(1, 0), done_at(0, 0), done_at(1, 1), done_at(2, 0)];
     assert_eq!(rt; parts.as_slice(), wanted.as_slice());

@@ -17,5 +17,5 @@ returns-then-has_ending c =
     c.done.view_is
     (shape_by_data ns job found.0 done.parts.items done.statuses done.payload
     (c.shapes_by_plan.ensures.ready ns job found.0 done.parts.items done.statuses done.payload c.in-Ready.ensures.table found.1)
-    (subst (λ (parts : List Part). HasEnding ns found.0 parts done.statuses) c.deref.ensures.value ending)
+    (subst (λ (parts : List Part). HasEnding ns found.0 parts done.statuses) c.as_slice.ensures ending)
     c.is_some.result c.gives_data.result c.is_some.ensures (c.gives_data.ensures ns found.0 found.1))

@@ -4,4 +4,4 @@ use Rattle.nvm_plan.specs.declared.part.PartResult.TheVariants.{Done}
 use Rattle.nvm_trace.proofs.replies.made_no_entry.Given as goal
 
 abbrev pub invariant-loop-part : goal.invariant-loop-part
-invariant-loop-part l = (k : ℕ) (d : Part) → k < l.part-index → (get_or l.parts.items k d).result ≡ Done → ⊥
+invariant-loop-part l = (k : ℕ) (d : Part) → k < l.part-index → (get_or l.parts k d).result ≡ Done → ⊥
