@@ -4,7 +4,7 @@
  *     c_load answers SEED NUMBER
  *
  * COMMAND is write, read, compare or pair, each of BLOCKS blocks of SIZE bytes, NUMBER in all. Each thread has 512 blocks of its own in units of 8 blocks, or of BLOCKS where that is more; with `hot` all work in
- * the first unit. With `recorded` the namespace is recorded. Pairs and Compares hold. It prints the number of commands on standard output, and on standard error the nanoseconds by the wall's clock and of processor time. Compiled with
+ * the first unit. With `recorded` the namespace is recorded. All blocks are written before anything is measured. Pairs and Compares hold. It prints the number of commands on standard output, and on standard error the nanoseconds by the wall's clock and of processor time. Compiled with
  * -DCOUNTED and linked with -Wl,--wrap=malloc,--wrap=realloc,--wrap=free it prints the calls of these three after that.
  *
  * `answers` sends NUMBER random commands, wrong ones among them, by one thread to one namespace, and prints a sum of each code, each completion, and the data after each success: two engines that answer alike print the same. */
@@ -100,6 +100,19 @@ static void *do_all(void *given)
     return NULL;
 }
 
+/* Writes all blocks of a share: one that nobody has written has no memory to be read. */
+static int write_all(const struct share *share)
+{
+    uint8_t entry[ZK_ENTRY_BYTES], *data = calloc(share->blocks, share->size);
+    int done = data != NULL;
+    for (uint64_t place = 0; done && place < share->places; place++) {
+        entry_of(entry, WRITE, 0, 0, share->first + place * share->blocks, share->blocks);
+        done = is_done(share->port, entry, 1, data, (size_t)share->blocks * share->size, 0);
+    }
+    free(data);
+    return done;
+}
+
 static long long now(clockid_t clock)
 {
     struct timespec at;
@@ -189,6 +202,9 @@ int main(int words, char **word)
         return 1;
     for (unsigned long t = 0; t < threads; t++)
         shares[t] = (struct share){ .port = &ports[t], .opcode = opcodes[kind], .first = hot ? 0 : t * OWN, .places = hot ? unit / blocks : OWN / blocks, .blocks = blocks, .size = size, .number = number / threads };
+    for (unsigned long t = 0; t < threads; t++)
+        if (!write_all(&shares[t]))
+            return 1;
     long long wall = now(CLOCK_MONOTONIC), processor = now(CLOCK_PROCESS_CPUTIME_ID);
     for (unsigned long t = 1; t < threads; t++)
         if (pthread_create(&ids[t], NULL, do_all, &shares[t]))
