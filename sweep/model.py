@@ -2,8 +2,8 @@
 
 What isn't decided by the files alone is which growths of memory are refused. So a job has several ends
 here, those in which it wants memory among them, and `Model.wants` follows all of those that print what the
-program printed. It knows nothing of how the program is made but this: a job asks for its list of parts
-before the first, and one that is refused a growth ends with it, and asks for no more.
+program printed. It knows nothing of how the program is made but this: a job of several parts asks for
+their list before the first, and one that is refused a growth ends with it, and asks for no more.
 """
 
 import re
@@ -194,9 +194,9 @@ def ends(namespace, body, world):
     lead, last = body[0], body[-1]
     wants_memory = ["0/00", "0/06"][-len(body) :]
     pieces = list(parts(namespace, lead))
-    # Before its first part a job asks for the room of its list of parts, and a Read over several units for that of its data.
-    if pieces:
-        yield ["0/06", "0/09"][: len(body)], world.refused()
+    # Before its first part a job of several asks for the room of their list, and a Read also for that of its data.
+    if len(pieces) > 1:
+        yield ["0/06"], world.refused()
     for unit, begin, count in pieces:
         at, old = begin - lead.first, world.blocks[begin : begin + count]
         status = look(lead, old, lead.data[at : at + count])

@@ -23,6 +23,7 @@ ANSWERS = {
     ("nvm_space", "Space::run_job"): (NO_PART, IS_READY),
     ("nvm_space", "Space::begin_job"): (f"Progress::Done({NO_PART})", IS_READY),
     ("nvm_space", "Space::poll_job"): (f"Progress::Done({NO_PART})", ""),
+    ("nvm_text", "hand_noting"): ("Err(note(noted, Error::from(ErrorKind::OutOfMemory)))", ""),
     ("nvm_trace", "Trace::push"): ("Err(std::alloc::AllocFailed { value: job })", ""),
     ("nvm_engine", "run"): ("Err(crate::run_fault::RunFailed { fault: crate::run_fault::RunFault::NoMemory, jobs })", ""),
 }
