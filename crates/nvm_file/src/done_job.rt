@@ -169,11 +169,7 @@ fn one_part_of<'a>(
     ensures { Gives (λ x. (x.0.items, left_of x.1)) result (items_at (λ _. part_at frame.now) 0 1 (left_of from.entry)) }
 {
     match part_of(frame, from) {
-        Ok((part, rest)) => {
-            let mut parts = Parts::new(alloc);
-            parts.push_reserved(part);
-            Ok((parts, rest))
-        }
+        Ok((part, rest)) => Ok((Parts::from_buf(alloc, [part]), rest)),
         Err(fault) => Err(fault),
     }
 }

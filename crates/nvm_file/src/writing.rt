@@ -7,7 +7,7 @@ ghost use Rattle.nvm_file.specs.Spelling.{record_bytes};
 
 use crate::laws::spellings_are_files;
 use nvm_audit::Record;
-use nvm_text::{Noted, noted_error};
+use nvm_text::{Failed, Noted, noted_error};
 use std::io;
 use std::io::Write;
 
@@ -40,18 +40,14 @@ pub fn write_record<W: Write>(writer: &mut W, run: &Record) -> io::Result<()>
     ensures file { OnOk result (IsRecordFile (record_bytes run.now) run.now) }
 {
     let mut noted = None;
-    match write_parts(writer, &mut noted, run) {
+    match write_pieces(writer, &mut noted, run) {
         Ok(()) => Ok(()),
-        Err(Noted) => Err(noted_error(noted)),
+        Err(Failed) => Err(noted_error(noted)),
     }
 }
 
 /// Writes the parts of the file, one after the other.
-fn write_parts<W: Write>(
-    writer: &mut W,
-    noted: &mut Option<io::Error>,
-    run: &Record,
-) -> Result<(), Noted>
+fn write_pieces<W: Write>(writer: &mut W, noted: &mut Noted, run: &Record) -> Result<(), Failed>
     ensures whole { OnOk result (Appends (W.contents writer.old) (W.contents writer.new) (record_bytes run.now)) }
     ensures front { OnErr result (TakesFront (W.contents writer.old) (W.contents writer.new) (record_bytes run.now)) }
     ensures fits { OnOk result (FitsItsFields run.now) }

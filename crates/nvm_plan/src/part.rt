@@ -3,7 +3,7 @@ use smallvec::SmallVec;
 /// The parts of a job that were done. A single one takes no memory.
 pub type Parts = SmallVec<Part, 1>;
 
-/// What a job did in one unit.
+/// What a job did in one unit. Its default stands where a list of parts has room for one.
 #[derive(Clone, Copy, Debug, Default, PartialEq, Eq)]
 pub struct Part {
     /// The number of the unit.

@@ -7,6 +7,7 @@ use crate::piece::Piece;
 use nvm_record::{Op, Status};
 
 /// Host, command identifier, name and status, and the byte behind them.
+#[inline(always)]
 pub fn front_of(op: Op, host: u16, cid: u16, status: Status, behind: u8) -> Piece
     ensures { result ≡ identifiers host cid ++ (name_of op ++ (codes " " ++ (status_text status ++ behind ∷ []))) }
 {

@@ -6,9 +6,12 @@ ghost use Rattle.nvm_text.specs.Handed.{TakesFront};
 use std::io;
 use std::io::{Error, ErrorKind, Write};
 
-/// The writer failed, and its error is noted where the caller wants it.
+/// The error of a writer, once it has failed.
+pub type Noted = Option<Error>;
+
+/// The writer failed, and its error is noted.
 #[derive(Clone, Copy, Debug, PartialEq, Eq)]
-pub struct Noted;
+pub struct Failed;
 
 /// Writes all of the bytes, in as many calls as the writer wants. A call that was interrupted is made again.
 ///
@@ -22,20 +25,16 @@ pub fn hand<W: Write>(writer: &mut W, bytes: &[u8]) -> io::Result<()>
     let mut noted = None;
     match hand_noting(writer, &mut noted, bytes) {
         Ok(()) => Ok(()),
-        Err(Noted) => Err(noted_error(noted)),
+        Err(Failed) => Err(noted_error(noted)),
     }
 }
 
-/// Does what [`hand`] does, and notes the error of the writer where it fails. Who hands over many short pieces saves more instructions than most of
-/// them take: an `io::Result` has 96 bytes, which each call clears and copies.
+/// Does what [`hand`] does, and notes the error where the writer fails. That is for many short pieces: an `io::Result` has 96 bytes, and a call
+/// that answers one clears and copies them, which takes more instructions than most pieces do.
 ///
 /// Where the first call takes all of them, as a buffer with room does, it costs no more than that call.
 #[inline(always)]
-pub fn hand_noting<W: Write>(
-    writer: &mut W,
-    noted: &mut Option<Error>,
-    bytes: &[u8],
-) -> Result<(), Noted>
+pub fn hand_noting<W: Write>(writer: &mut W, noted: &mut Noted, bytes: &[u8]) -> Result<(), Failed>
     ensures whole { OnOk result (Appends (W.contents writer.old) (W.contents writer.new) bytes.now) }
     ensures front { OnErr result (TakesFront (W.contents writer.old) (W.contents writer.new) bytes.now) }
 {
@@ -51,7 +50,7 @@ pub fn hand_noting<W: Write>(
 /// Writes all of the bytes, call by call.
 #[cold]
 #[inline(never)]
-fn hand_rest<W: Write>(writer: &mut W, noted: &mut Option<Error>, bytes: &[u8]) -> Result<(), Noted>
+fn hand_rest<W: Write>(writer: &mut W, noted: &mut Noted, bytes: &[u8]) -> Result<(), Failed>
     ensures whole { OnOk result (Appends (W.contents writer.old) (W.contents writer.new) bytes.now) }
     ensures front { OnErr result (TakesFront (W.contents writer.old) (W.contents writer.new) bytes.now) }
 {
@@ -76,14 +75,14 @@ fn hand_rest<W: Write>(writer: &mut W, noted: &mut Option<Error>, bytes: &[u8]) 
 /// Notes the error.
 #[cold]
 #[inline(never)]
-fn note(noted: &mut Option<Error>, error: Error) -> Noted {
+fn note(noted: &mut Noted, error: Error) -> Failed {
     *noted = Some(error);
-    Noted
+    Failed
 }
 
 /// The error that was noted.
 #[cold]
-pub fn noted_error(noted: Option<Error>) -> Error {
+pub fn noted_error(noted: Noted) -> Error {
     noted.unwrap_or_else(taken_none)
 }
 

@@ -22,7 +22,7 @@ mod piece;
 mod run;
 mod status;
 
-pub use handing::{Noted, hand, hand_noting, noted_error};
+pub use handing::{Failed, Noted, hand, hand_noting, noted_error};
 pub use hex_byte::HexByte;
 pub use line::write_line;
 pub use name::OpName;

@@ -14,16 +14,15 @@ use byteorder::{ByteOrder, LittleEndian};
 use nvm_audit::DoneJob;
 use nvm_plan::{Part, PartResult};
 use nvm_record::{ReadData, Status, Statuses};
-use nvm_text::{Noted, hand_noting};
-use std::io;
+use nvm_text::{Failed, Noted, hand_noting};
 use std::io::Write;
 
 /// Writes what each worker did.
 pub fn write_workers<W: Write>(
     writer: &mut W,
-    noted: &mut Option<io::Error>,
+    noted: &mut Noted,
     workers: &[Vec<DoneJob>],
-) -> Result<(), Noted>
+) -> Result<(), Failed>
     requires { All (λ work. IsShortWork work.items) workers.now }
     ensures whole { OnOk result (Appends (W.contents writer.old) (W.contents writer.new)
         (flat_map work_bytes (map (λ work. work.items) workers.now))) }
@@ -38,11 +37,7 @@ pub fn write_workers<W: Write>(
 }
 
 /// Writes how many jobs the worker did, and each of them.
-fn write_work<W: Write>(
-    writer: &mut W,
-    noted: &mut Option<io::Error>,
-    work: &[DoneJob],
-) -> Result<(), Noted>
+fn write_work<W: Write>(writer: &mut W, noted: &mut Noted, work: &[DoneJob]) -> Result<(), Failed>
     requires { IsShortWork work.now }
     ensures whole { OnOk result (Appends (W.contents writer.old) (W.contents writer.new) (work_bytes work.now)) }
     ensures front { OnErr result (TakesFront (W.contents writer.old) (W.contents writer.new) (work_bytes work.now)) }
@@ -55,11 +50,7 @@ fn write_work<W: Write>(
     Ok(())
 }
 
-fn write_done<W: Write>(
-    writer: &mut W,
-    noted: &mut Option<io::Error>,
-    done: &DoneJob,
-) -> Result<(), Noted>
+fn write_done<W: Write>(writer: &mut W, noted: &mut Noted, done: &DoneJob) -> Result<(), Failed>
     requires { IsShortDone done.now }
     ensures whole { OnOk result (Appends (W.contents writer.old) (W.contents writer.new) (done_bytes done.now)) }
     ensures front { OnErr result (TakesFront (W.contents writer.old) (W.contents writer.new) (done_bytes done.now)) }
@@ -80,12 +71,12 @@ fn write_done<W: Write>(
 /// Writes a done job of one command and one part, as most are. All before the data is handed over at once.
 fn write_one_part<W: Write>(
     writer: &mut W,
-    noted: &mut Option<io::Error>,
+    noted: &mut Noted,
     job: u32,
     part: Part,
     status: Status,
     payload: &Option<ReadData>,
-) -> Result<(), Noted>
+) -> Result<(), Failed>
     ensures whole { OnOk result (Appends (W.contents writer.old) (W.contents writer.new)
         (done_bytes (record { job = job; parts = part ∷ []; statuses = One status; payload = payload.now }))) }
     ensures front { OnErr result (TakesFront (W.contents writer.old) (W.contents writer.new)
@@ -129,11 +120,7 @@ fn done_front(done: &DoneJob) -> [u8; 6]
     front
 }
 
-fn write_parts<W: Write>(
-    writer: &mut W,
-    noted: &mut Option<io::Error>,
-    parts: &[Part],
-) -> Result<(), Noted>
+fn write_parts<W: Write>(writer: &mut W, noted: &mut Noted, parts: &[Part]) -> Result<(), Failed>
     ensures whole { OnOk result (Appends (W.contents writer.old) (W.contents writer.new) (flat_map spec.part_bytes parts.now)) }
     ensures front { OnErr result (TakesFront (W.contents writer.old) (W.contents writer.new)
         (flat_map spec.part_bytes parts.now)) }
@@ -172,9 +159,9 @@ fn result_code(end: PartResult) -> u8
 /// Writes the status of each command.
 pub fn write_statuses<W: Write>(
     writer: &mut W,
-    noted: &mut Option<io::Error>,
+    noted: &mut Noted,
     statuses: Statuses,
-) -> Result<(), Noted>
+) -> Result<(), Failed>
     ensures whole { OnOk result (Appends (W.contents writer.old) (W.contents writer.new) (statuses_bytes statuses)) }
     ensures front { OnErr result (TakesFront (W.contents writer.old) (W.contents writer.new) (statuses_bytes statuses)) }
     ensures fit { StatusesFit statuses }
@@ -190,9 +177,9 @@ pub fn write_statuses<W: Write>(
 /// Writes whether there is data, and the data.
 pub fn write_payload<W: Write>(
     writer: &mut W,
-    noted: &mut Option<io::Error>,
+    noted: &mut Noted,
     payload: &Option<ReadData>,
-) -> Result<(), Noted>
+) -> Result<(), Failed>
     ensures whole { OnOk result (Appends (W.contents writer.old) (W.contents writer.new) (payload_bytes payload.now)) }
     ensures front { OnErr result (TakesFront (W.contents writer.old) (W.contents writer.new) (payload_bytes payload.now)) }
 {

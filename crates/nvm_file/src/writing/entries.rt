@@ -14,16 +14,15 @@ use super::bytes::{count_bytes, two_bytes};
 use byteorder::{ByteOrder, LittleEndian};
 use nvm_record::{LbaRange, range_count};
 use nvm_store::{Act, Entry, History};
-use nvm_text::{Noted, hand_noting};
-use std::io;
+use nvm_text::{Failed, Noted, hand_noting};
 use std::io::Write;
 
 /// Writes the history of each unit.
 pub fn write_units<W: Write>(
     writer: &mut W,
-    noted: &mut Option<io::Error>,
+    noted: &mut Noted,
     units: &[History],
-) -> Result<(), Noted>
+) -> Result<(), Failed>
     requires { All (λ history. IsShortHistory history.items) units.now }
     ensures whole { OnOk result (Appends (W.contents writer.old) (W.contents writer.new)
         (flat_map history_bytes (map (λ history. history.items) units.now))) }
@@ -39,9 +38,9 @@ pub fn write_units<W: Write>(
 /// Writes how many entries there are, and each of them.
 fn write_history<W: Write>(
     writer: &mut W,
-    noted: &mut Option<io::Error>,
+    noted: &mut Noted,
     history: &[Entry],
-) -> Result<(), Noted>
+) -> Result<(), Failed>
     requires { IsShortHistory history.now }
     ensures whole { OnOk result (Appends (W.contents writer.old) (W.contents writer.new) (history_bytes history.now)) }
     ensures front { OnErr result (TakesFront (W.contents writer.old) (W.contents writer.new) (history_bytes history.now)) }
@@ -53,11 +52,7 @@ fn write_history<W: Write>(
     Ok(())
 }
 
-fn write_entry<W: Write>(
-    writer: &mut W,
-    noted: &mut Option<io::Error>,
-    entry: &Entry,
-) -> Result<(), Noted>
+fn write_entry<W: Write>(writer: &mut W, noted: &mut Noted, entry: &Entry) -> Result<(), Failed>
     requires { IsShortDeed entry.now.operation.deed }
     ensures whole { OnOk result (Appends (W.contents writer.old) (W.contents writer.new) (entry_bytes entry.now)) }
     ensures front { OnErr result (TakesFront (W.contents writer.old) (W.contents writer.new) (entry_bytes entry.now)) }
@@ -81,11 +76,11 @@ fn kind(act: &Act) -> u8
 /// Writes an entry by its numbers and what was done. The numbers, the kind and, but for a Deallocate, the range are handed over at once.
 fn write_act<W: Write>(
     writer: &mut W,
-    noted: &mut Option<io::Error>,
+    noted: &mut Noted,
     pass: u16,
     job: u32,
     act: &Act,
-) -> Result<(), Noted>
+) -> Result<(), Failed>
     requires { IsShortDeed (operation_of act.now).deed }
     ensures whole { OnOk result (Appends (W.contents writer.old) (W.contents writer.new)
         (entry_bytes (record { pass = pass; job = job; operation = operation_of act.now }))) }
@@ -169,11 +164,7 @@ fn extent_bytes(first: u64, blocks: u32) -> [u8; 12]
 }
 
 /// Writes how many ranges there are, and each of them, without its context attributes.
-fn write_ranges<W: Write>(
-    writer: &mut W,
-    noted: &mut Option<io::Error>,
-    payload: &[u8],
-) -> Result<(), Noted>
+fn write_ranges<W: Write>(writer: &mut W, noted: &mut Noted, payload: &[u8]) -> Result<(), Failed>
     requires { ranges.range_count payload.now ≤ most_ranges }
     ensures whole { OnOk result (Appends (W.contents writer.old) (W.contents writer.new)
         (little_bytes 2 (ranges.range_count payload.now) ++ flat_map cut_bytes (ranges_of payload.now))) }

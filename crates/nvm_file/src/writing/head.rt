@@ -11,16 +11,11 @@ use byteorder::{ByteOrder, LittleEndian};
 use nvm_audit::{Record, Version};
 use nvm_geometry::Geometry;
 use nvm_store::Limit;
-use nvm_text::{Noted, hand_noting};
-use std::io;
+use nvm_text::{Failed, Noted, hand_noting};
 use std::io::Write;
 
 /// Writes what stands before the jobs.
-pub fn write_head<W: Write>(
-    writer: &mut W,
-    noted: &mut Option<io::Error>,
-    run: &Record,
-) -> Result<(), Noted>
+pub fn write_head<W: Write>(writer: &mut W, noted: &mut Noted, run: &Record) -> Result<(), Failed>
     ensures whole { OnOk result (Appends (W.contents writer.old) (W.contents writer.new) (head_bytes run.now)) }
     ensures front { OnErr result (TakesFront (W.contents writer.old) (W.contents writer.new) (head_bytes run.now)) }
     ensures fit { OnOk result (NumbersFit run.now.namespace) }
@@ -59,10 +54,10 @@ pub fn namespace_bytes(geometry: Geometry) -> [u8; 20]
 /// Writes the limit, for which the version has room.
 fn write_limit<W: Write>(
     writer: &mut W,
-    noted: &mut Option<io::Error>,
+    noted: &mut Noted,
     version: Version,
     limit: Limit,
-) -> Result<(), Noted>
+) -> Result<(), Failed>
     requires { HoldsLimit version limit }
     ensures whole { OnOk result (Appends (W.contents writer.old) (W.contents writer.new) (limit_bytes version limit)) }
     ensures front { OnErr result (TakesFront (W.contents writer.old) (W.contents writer.new) (limit_bytes version limit)) }

@@ -5,7 +5,7 @@ ghost use Rattle.nvm_text.specs.Handed.{TakesFront};
 
 use super::jobs::write_command;
 use nvm_record::Command;
-use nvm_text::{Noted, hand_noting, noted_error};
+use nvm_text::{Failed, Noted, hand_noting, noted_error};
 use std::io;
 use std::io::Write;
 
@@ -23,15 +23,15 @@ pub fn write_host<W: Write>(writer: &mut W, commands: &[Command]) -> io::Result<
     let mut noted = None;
     match write_commands(writer, &mut noted, commands) {
         Ok(()) => Ok(()),
-        Err(Noted) => Err(noted_error(noted)),
+        Err(Failed) => Err(noted_error(noted)),
     }
 }
 
 fn write_commands<W: Write>(
     writer: &mut W,
-    noted: &mut Option<io::Error>,
+    noted: &mut Noted,
     commands: &[Command],
-) -> Result<(), Noted>
+) -> Result<(), Failed>
     ensures whole { OnOk result (Appends (W.contents writer.old) (W.contents writer.new) (file_of commands.now)) }
     ensures front { OnErr result (TakesFront (W.contents writer.old) (W.contents writer.new) (file_of commands.now)) }
 {

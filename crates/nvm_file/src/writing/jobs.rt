@@ -11,16 +11,11 @@ use super::bytes::count_bytes;
 use byteorder::{ByteOrder, LittleEndian};
 use nvm_plan::{Body, Job};
 use nvm_record::{Command, command_bytes};
-use nvm_text::{Noted, hand_noting};
-use std::io;
+use nvm_text::{Failed, Noted, hand_noting};
 use std::io::Write;
 
 /// Writes how many jobs there are, and each of them.
-pub fn write_jobs<W: Write>(
-    writer: &mut W,
-    noted: &mut Option<io::Error>,
-    jobs: &[Job],
-) -> Result<(), Noted>
+pub fn write_jobs<W: Write>(writer: &mut W, noted: &mut Noted, jobs: &[Job]) -> Result<(), Failed>
     requires { length jobs.now < 2 ^ 32 }
     ensures whole { OnOk result (Appends (W.contents writer.old) (W.contents writer.new) (counted job_bytes jobs.now)) }
     ensures front { OnErr result (TakesFront (W.contents writer.old) (W.contents writer.new) (counted job_bytes jobs.now)) }
@@ -34,11 +29,7 @@ pub fn write_jobs<W: Write>(
 }
 
 /// Writes a job.
-pub fn write_job<W: Write>(
-    writer: &mut W,
-    noted: &mut Option<io::Error>,
-    job: &Job,
-) -> Result<(), Noted>
+pub fn write_job<W: Write>(writer: &mut W, noted: &mut Noted, job: &Job) -> Result<(), Failed>
     ensures whole { OnOk result (Appends (W.contents writer.old) (W.contents writer.new) (job_bytes job.now)) }
     ensures front { OnErr result (TakesFront (W.contents writer.old) (W.contents writer.new) (job_bytes job.now)) }
     ensures fits { OnOk result (JobFits job.now) }
@@ -57,11 +48,11 @@ pub fn write_job<W: Write>(
 #[inline(always)]
 fn write_first<W: Write>(
     writer: &mut W,
-    noted: &mut Option<io::Error>,
+    noted: &mut Noted,
     host: u16,
     kind: u8,
     command: &Command,
-) -> Result<(), Noted>
+) -> Result<(), Failed>
     ensures whole { OnOk result (Appends (W.contents writer.old) (W.contents writer.new)
         (little_bytes 2 host ++ (kind ∷ spelling_of command.now))) }
     ensures front { OnErr result (TakesFront (W.contents writer.old) (W.contents writer.new)
@@ -87,9 +78,9 @@ fn first_piece(host: u16, kind: u8, command: &Command) -> [u8; 67]
 /// Writes a command's submission entry, and its data.
 pub fn write_command<W: Write>(
     writer: &mut W,
-    noted: &mut Option<io::Error>,
+    noted: &mut Noted,
     command: &Command,
-) -> Result<(), Noted>
+) -> Result<(), Failed>
     ensures whole { OnOk result (Appends (W.contents writer.old) (W.contents writer.new) (spelling_of command.now)) }
     ensures front { OnErr result (TakesFront (W.contents writer.old) (W.contents writer.new) (spelling_of command.now)) }
     ensures fits { HasFieldsInRange command.now }

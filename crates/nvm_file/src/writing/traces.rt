@@ -16,7 +16,7 @@ use super::jobs::write_job;
 use crate::laws::spellings_are_traces;
 use crate::traced_job::NEVER;
 use byteorder::{ByteOrder, LittleEndian};
-use nvm_text::{Noted, hand_noting, noted_error};
+use nvm_text::{Failed, Noted, hand_noting, noted_error};
 use nvm_trace::{Deallocated, Ending, Reads, Start, Trace, TracedJob};
 use std::io;
 use std::io::{ErrorKind, Write};
@@ -35,18 +35,14 @@ pub fn write_trace<W: Write>(writer: &mut W, trace: &Trace) -> io::Result<()>
     ensures file { OnOk result (IsTraceFile (trace_bytes trace.now) trace.now) }
 {
     let mut noted = None;
-    match write_parts(writer, &mut noted, trace) {
+    match write_pieces(writer, &mut noted, trace) {
         Ok(()) => Ok(()),
-        Err(Noted) => Err(noted_error(noted)),
+        Err(Failed) => Err(noted_error(noted)),
     }
 }
 
 /// Writes what stands before the jobs, and these.
-fn write_parts<W: Write>(
-    writer: &mut W,
-    noted: &mut Option<io::Error>,
-    trace: &Trace,
-) -> Result<(), Noted>
+fn write_pieces<W: Write>(writer: &mut W, noted: &mut Noted, trace: &Trace) -> Result<(), Failed>
     ensures whole { OnOk result (Appends (W.contents writer.old) (W.contents writer.new) (trace_bytes trace.now)) }
     ensures front { OnErr result (TakesFront (W.contents writer.old) (W.contents writer.new) (trace_bytes trace.now)) }
     ensures fits { OnOk result (TraceFits trace.now) }
@@ -60,9 +56,9 @@ fn write_parts<W: Write>(
 /// Writes what stands before the jobs.
 fn write_trace_head<W: Write>(
     writer: &mut W,
-    noted: &mut Option<io::Error>,
+    noted: &mut Noted,
     trace: &Trace,
-) -> Result<(), Noted>
+) -> Result<(), Failed>
     ensures whole { OnOk result (Appends (W.contents writer.old) (W.contents writer.new) (trace_head_bytes trace.now)) }
     ensures front { OnErr result (TakesFront (W.contents writer.old) (W.contents writer.new) (trace_head_bytes trace.now)) }
     ensures fit { OnOk result (NumbersFit trace.now.namespace) }
@@ -126,9 +122,9 @@ fn deallocated_code(deallocated: Deallocated) -> u8
 /// Writes how many jobs there are, and each of them.
 fn write_traced_jobs<W: Write>(
     writer: &mut W,
-    noted: &mut Option<io::Error>,
+    noted: &mut Noted,
     jobs: &[TracedJob],
-) -> Result<(), Noted>
+) -> Result<(), Failed>
     requires { length jobs.now < 2 ^ 32 }
     ensures whole { OnOk result (Appends (W.contents writer.old) (W.contents writer.new) (counted traced_bytes jobs.now)) }
     ensures front { OnErr result (TakesFront (W.contents writer.old) (W.contents writer.new) (counted traced_bytes jobs.now)) }
@@ -144,9 +140,9 @@ fn write_traced_jobs<W: Write>(
 /// Writes a job, when it began, and how it ended.
 fn write_traced_job<W: Write>(
     writer: &mut W,
-    noted: &mut Option<io::Error>,
+    noted: &mut Noted,
     job: &TracedJob,
-) -> Result<(), Noted>
+) -> Result<(), Failed>
     ensures whole { OnOk result (Appends (W.contents writer.old) (W.contents writer.new) (traced_bytes job.now)) }
     ensures front { OnErr result (TakesFront (W.contents writer.old) (W.contents writer.new) (traced_bytes job.now)) }
     ensures fits { OnOk result (TracedJobFits job.now) }
@@ -159,9 +155,9 @@ fn write_traced_job<W: Write>(
 /// Writes when a job ended and what came back, or that its end wasn't seen.
 fn write_ended<W: Write>(
     writer: &mut W,
-    noted: &mut Option<io::Error>,
+    noted: &mut Noted,
     ended: &Option<Ending>,
-) -> Result<(), Noted>
+) -> Result<(), Failed>
     ensures whole { OnOk result (Appends (W.contents writer.old) (W.contents writer.new) (ended_bytes ended.now)) }
     ensures front { OnErr result (TakesFront (W.contents writer.old) (W.contents writer.new) (ended_bytes ended.now)) }
     ensures fits { OnOk result (IfSome ended.now EndingFits) }
@@ -173,18 +169,14 @@ fn write_ended<W: Write>(
 }
 
 /// Writes when a job ended, and what came back.
-fn write_ending<W: Write>(
-    writer: &mut W,
-    noted: &mut Option<io::Error>,
-    ending: &Ending,
-) -> Result<(), Noted>
+fn write_ending<W: Write>(writer: &mut W, noted: &mut Noted, ending: &Ending) -> Result<(), Failed>
     ensures whole { OnOk result (Appends (W.contents writer.old) (W.contents writer.new) (ending_bytes ending.now)) }
     ensures front { OnErr result (TakesFront (W.contents writer.old) (W.contents writer.new) (ending_bytes ending.now)) }
     ensures fits { OnOk result (EndingFits ending.now) }
 {
     if ending.time == NEVER {
         *noted = Some(io::Error::from(ErrorKind::InvalidInput));
-        return Err(Noted);
+        return Err(Failed);
     }
     hand_noting(writer, noted, &eight_bytes(ending.time))?;
     write_statuses(writer, noted, ending.statuses)?;

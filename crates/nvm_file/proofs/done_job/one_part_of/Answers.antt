@@ -1,4 +1,4 @@
-use Rattle.std.proofs.Common.{◌≡◌, ◌⊎◌, inl, inr, ℕ, List, [], ◌∷◌, ◌++◌, Result, Ok, Err, refl, sym, ap, ◌∙◌}
+use Rattle.std.proofs.Common.{◌≡◌, ◌⊎◌, inl, inr, ℕ, List, [], ◌∷◌, Result, Ok, Err, refl, sym, ap, ◌∙◌}
 use Rattle.nvm_plan.specs.declared.part.Part.{Part}
 use Rattle.nvm_file.specs.declared.record_fault.RecordFault.{RecordFault}
 use Rattle.nvm_file.specs.declared.record_fault.RecordFault.TheVariants.{NoMemory}
@@ -25,4 +25,4 @@ pub returns-in-Ok : goal.returns-in-Ok
 returns-in-Ok c =
     one_found (λ _. part_at c.args.frame.now) (left_of c.args.from) (left_of c.in-Ok.rest) c.in-Ok.part c.in-Ok.ensures
     ∙ ap (λ (parts : List Part). Ok (parts, left_of c.in-Ok.rest))
-    (sym (c.push_reserved.ensures.items ∙ ap (λ (parts : List Part). parts ++ c.in-Ok.part ∷ []) c.new-parts.ensures.items))
+    (sym c.from_buf.ensures.items)

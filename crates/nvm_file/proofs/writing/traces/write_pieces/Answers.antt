@@ -10,7 +10,7 @@ use Rattle.nvm_file.specs.Counted.{counted}
 use Rattle.nvm_file.specs.Fits.{NumbersFit}
 use Rattle.nvm_file.specs.TraceFits.{TraceFits, TracedJobFits}
 use Rattle.nvm_file.specs.TraceSpelling.{trace_bytes, trace_head_bytes, traced_bytes}
-use Rattle.nvm_file.proofs.writing.traces.write_parts.Goals as goal
+use Rattle.nvm_file.proofs.writing.traces.write_pieces.Goals as goal
 
 -- The numbers of a trace fit where those of its parts do.
 fit_of : (inside : Inside) (t : TraceView) → shown_by inside ≡ t → NumbersFit t.namespace → t.first < 2 ^ 64

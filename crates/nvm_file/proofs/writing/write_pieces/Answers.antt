@@ -15,7 +15,7 @@ use Rattle.nvm_file.specs.JobSpelling.{job_bytes}
 use Rattle.nvm_file.specs.Spelling.{record_bytes}
 use Rattle.nvm_file.specs.WorkSpelling.{work_bytes}
 use Rattle.nvm_file.proofs.Lengths.{short_units, short_works}
-use Rattle.nvm_file.proofs.writing.write_parts.Goals as goal
+use Rattle.nvm_file.proofs.writing.write_pieces.Goals as goal
 
 -- The numbers of a record fit where those of its parts do.
 fit_of : (inside : Inside) (r : RecordView) → shown_by inside ≡ r → NumbersFit r.namespace → All JobFits inside.jobs.items
