@@ -15,10 +15,10 @@ use std::marker::Model;
 /// Contracts see it as plain data.
 #[derive(Debug, Drop)]
 pub(crate) struct DonePart<'a> {
-    /// The number of the worker that did it.
-    pub worker: u16,
     pub done: &'a DoneJob,
     pub part: Part,
+    /// The number of the worker that did it.
+    pub worker: u16,
     /// Whether it is the last part that was done of the job.
     pub is_last: bool,
 }

@@ -6,11 +6,11 @@ pub type Parts = SmallVec<Part, 1>;
 /// What a job did in one unit. Its default stands where a list of parts has room for one.
 #[derive(Clone, Copy, Debug, Default, PartialEq, Eq)]
 pub struct Part {
-    /// The number of the unit.
-    pub unit: u16,
     /// The number of changes that the unit's history had when the part was done: the part rests on
     /// that point.
     pub point: u32,
+    /// The number of the unit.
+    pub unit: u16,
     /// How it ended.
     pub result: PartResult,
 }

@@ -13,6 +13,8 @@ use std::alloc::AllocError;
 pub struct Command {
     /// The command identifier (CID), which the completion repeats.
     pub cid: u16,
+    /// The number of logical blocks, zeroes-based: 0 is one block. It is 0 for a Dataset Management.
+    pub nlb: u16,
     /// The namespace identifier.
     pub nsid: u32,
     /// The command's place in a fused operation.
@@ -21,8 +23,6 @@ pub struct Command {
     pub op: Op,
     /// The starting LBA. It is 0 for a Dataset Management.
     pub slba: u64,
-    /// The number of logical blocks, zeroes-based: 0 is one block. It is 0 for a Dataset Management.
-    pub nlb: u16,
     /// The data: `nlb + 1` blocks for a Write and a Compare, 1 to 256 ranges of 16 bytes with context
     /// attributes of 0 for a Dataset Management, none for the rest.
     pub payload: Payload,

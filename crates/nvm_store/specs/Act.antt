@@ -8,8 +8,8 @@ use Rattle.nvm_store.specs.declared.act.Act.TheVariants.{Write, Zeroes, Uncorrec
 
 -- the operation that the act stands for
 abbrev pub operation_of : Act → Operation
-operation_of (Write first blocks payload) = write_operation first blocks payload
-operation_of (Zeroes first blocks) = zeroes_operation first blocks
-operation_of (Uncorrectable first blocks) = uncorrectable_operation first blocks
-operation_of (Pair first blocks compare write) = pair_operation first blocks compare write
-operation_of (Deallocate first blocks ranges) = ranges_operation first blocks (ranges_of ranges)
+operation_of (Write blocks first payload) = write_operation first blocks payload
+operation_of (Zeroes blocks first) = zeroes_operation first blocks
+operation_of (Uncorrectable blocks first) = uncorrectable_operation first blocks
+operation_of (Pair blocks first compare write) = pair_operation first blocks compare write
+operation_of (Deallocate blocks first ranges) = ranges_operation first blocks (ranges_of ranges)

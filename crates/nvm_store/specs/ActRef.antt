@@ -8,8 +8,8 @@ use Rattle.nvm_store.specs.declared.act_ref.ActRef.TheVariants.{Write, Zeroes, U
 
 -- the operation that the act stands for
 abbrev pub lent_operation_of : ActRef → Operation
-lent_operation_of (Write first blocks payload) = write_operation first blocks (lent_bytes payload)
-lent_operation_of (Zeroes first blocks) = zeroes_operation first blocks
-lent_operation_of (Uncorrectable first blocks) = uncorrectable_operation first blocks
-lent_operation_of (Pair first blocks compare write) = pair_operation first blocks (lent_bytes compare) (lent_bytes write)
-lent_operation_of (Deallocate first blocks ranges) = deallocate_operation first blocks (ranges_of (lent_bytes ranges))
+lent_operation_of (Write blocks first payload) = write_operation first blocks (lent_bytes payload)
+lent_operation_of (Zeroes blocks first) = zeroes_operation first blocks
+lent_operation_of (Uncorrectable blocks first) = uncorrectable_operation first blocks
+lent_operation_of (Pair blocks first compare write) = pair_operation first blocks (lent_bytes compare) (lent_bytes write)
+lent_operation_of (Deallocate blocks first ranges) = deallocate_operation first blocks (ranges_of (lent_bytes ranges))

@@ -19,27 +19,27 @@ pub enum Act {
     /// The blocks take the data, one block after the other, and lose their marks (NVM Command Set
     /// Specification, "Write command").
     Write {
-        first: u64,
         blocks: u32,
+        first: u64,
         payload: Payload,
     },
     /// The blocks become zero bytes, and lose their marks (NVM Command Set Specification, "Write Zeroes
     /// command").
     Zeroes {
-        first: u64,
         blocks: u32,
+        first: u64,
     },
     /// The blocks are marked: until they are written or zeroed, no Read or comparison of them succeeds
     /// (NVM Command Set Specification, "Write Uncorrectable command").
     Uncorrectable {
-        first: u64,
         blocks: u32,
+        first: u64,
     },
     /// A fused Compare and Write: the blocks are compared with `compare`, and take the data of `write` and
     /// lose their marks where the comparison holds (Base Specification, "Fused Operation").
     Pair {
-        first: u64,
         blocks: u32,
+        first: u64,
         compare: Payload,
         write: Payload,
     },
@@ -48,8 +48,8 @@ pub enum Act {
     /// command"). The ranges have 16 bytes each, as they follow a Dataset Management's entry; bytes past
     /// the last whole range aren't read.
     Deallocate {
-        first: u64,
         blocks: u32,
+        first: u64,
         ranges: Payload,
     },
 }

@@ -12,32 +12,32 @@ use std::alloc::Global;
 pub enum ActRef<'a> {
     /// See [`Act::Write`].
     Write {
-        first: u64,
         blocks: u32,
+        first: u64,
         payload: PayloadRef<'a>,
     },
     /// See [`Act::Zeroes`].
     Zeroes {
-        first: u64,
         blocks: u32,
+        first: u64,
     },
     /// See [`Act::Uncorrectable`].
     Uncorrectable {
-        first: u64,
         blocks: u32,
+        first: u64,
     },
     /// See [`Act::Pair`].
     Pair {
-        first: u64,
         blocks: u32,
+        first: u64,
         compare: PayloadRef<'a>,
         write: PayloadRef<'a>,
     },
     /// See [`Act::Deallocate`]. The ranges may be those of a whole command: what isn't among the LBAs falls
     /// out. A range's end, and that of the LBAs, may lie past 2^64.
     Deallocate {
-        first: u64,
         blocks: u32,
+        first: u64,
         ranges: PayloadRef<'a>,
     },
 }

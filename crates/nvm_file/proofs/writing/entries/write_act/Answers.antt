@@ -16,7 +16,7 @@ abbrev numbered : ℕ → ℕ → ℕ → List ℕ → List ℕ
 numbered pass job kind rest = little_bytes 2 pass ++ (little_bytes 4 job ++ (kind ∷ rest))
 
 -- an act with a range of blocks alone
-has_no_data : (act : Act) (pass job first blocks : ℕ) → (act ≡ Zeroes first blocks) ⊎ (act ≡ Uncorrectable first blocks)
+has_no_data : (act : Act) (pass job first blocks : ℕ) → (act ≡ Zeroes blocks first) ⊎ (act ≡ Uncorrectable blocks first)
     → numbered pass job (kind_of (operation_of act).deed) (extent_bytes first blocks) ≡ entry_bytes (record { pass = pass; job = job; operation = operation_of act })
 has_no_data act pass job first blocks (inl e) = rw e refl
 has_no_data act pass job first blocks (inr e) = rw e refl
