@@ -76,6 +76,7 @@ fn body_of<'a>(kind: u8, scope: &Scope, rest: Rest<'a>) -> Result<(Body, Rest<'a
 }
 
 /// A command by itself.
+#[inline(always)]
 #[tactic(auto, unfolding(crate::specs::JobReading::single_at))]
 fn single_of<'a>(scope: &Scope, rest: Rest<'a>) -> Result<(Body, Rest<'a>), RecordFault>
     ensures { Gives (λ x. (x.0, left_of x.1)) result (single_at scope.now (left_of rest.entry)) }
