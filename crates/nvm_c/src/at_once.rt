@@ -1,5 +1,5 @@
 //! Jobs of one part, a command by itself or a fused pair that lies in one unit, which are tried as they are submitted.
-ghost use Rattle.std.specs.Prelude.{◌≡◌, ◌⊎◌, ◌+◌, ◌*◌, ◌<◌, ◌≤◌, ℕ, List, [], IsTrue, None, false, length, slice_range, take};
+ghost use Rattle.std.specs.Prelude.{◌≡◌, ◌⊎◌, ◌+◌, ◌*◌, ◌<◌, ◌≤◌, ℕ, List, IsTrue, None, false, length, slice_range, take};
 ghost use Rattle.std.specs.Bool.{OnTrue};
 ghost use Rattle.nvm_record.specs.Entry.{data_length};
 ghost use Rattle.nvm_record.specs.Op.{carries_ranges};
@@ -33,9 +33,9 @@ use crate::log::draw;
 use crate::quiet::Quiet;
 use crate::telling::tell;
 use crate::waiting::WaitingJob;
-use nvm_plan::{BodyFields, Completions, LentPart, Parts};
+use nvm_plan::{BodyFields, Completions, LentPart};
 use nvm_record::{BlockSize, Completion, EntryFields, Fuse, Op, PayloadRef, Status, Statuses};
-use nvm_space::{JobDone, Port, Space};
+use nvm_space::{Port, Space};
 use nvm_unit::Count;
 use std::alloc::Global;
 
@@ -232,8 +232,8 @@ pub(crate) fn done_at_once(
     told_statuses_fit_their_entries();
     match space.poll_only_part(alloc, port, number, region, part, room, &Quiet) {
         Some(statuses) => {
-            let done = job_done(alloc, host, fields, statuses);
-            tell(&done.completions, &mut [], posted);
+            let completions = reported(host, fields, statuses);
+            tell(&completions, &mut [], posted);
             true
         }
         None => false,
@@ -265,13 +265,11 @@ fn fits_buffer(fields: &EntryFields, size: BlockSize, data: &[u8]) -> bool
 
 /// What is reported about the job of entries with these fields, but for what a Read read.
 #[inline(always)]
-fn job_done(alloc: Global, host: u16, fields: BodyFields, statuses: Statuses) -> JobDone
+fn reported(host: u16, fields: BodyFields, statuses: Statuses) -> Completions
     requires { (bytes compared : List ℕ) × IsForEach (body_lent fields bytes compared) statuses }
-    ensures completions { (bytes compared : List ℕ)
-        → result.completions ≡ completions_of (record { host = host; body = body_lent fields bytes compared }) statuses None }
-    ensures parts { result.parts.items ≡ [] }
+    ensures { (bytes compared : List ℕ) → result ≡ completions_of (record { host = host; body = body_lent fields bytes compared }) statuses None }
 {
-    let completions = match (fields, statuses) {
+    match (fields, statuses) {
         (BodyFields::Single(alone), Statuses::One(status)) => {
             Completions::One(completion(host, alone, status))
         }
@@ -280,10 +278,6 @@ fn job_done(alloc: Global, host: u16, fields: BodyFields, statuses: Statuses) ->
             completion(host, write, second),
         ),
         _ => unreachable!("each command has a status"),
-    };
-    JobDone {
-        completions,
-        parts: Parts::new(alloc),
     }
 }
 
