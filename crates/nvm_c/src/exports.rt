@@ -23,10 +23,10 @@ ghost use Rattle.nvm_c.specs.declared.trace_code.TraceCode.{TraceCode as TraceAn
 
 use crate::auditing::audited;
 use crate::carried::carried;
-use crate::code::Code;
 use crate::handle::Handle;
-use crate::identify::{identify_numbers, report};
+use crate::identify::identify_numbers;
 use crate::opening::{Numbers, open_ports};
+use crate::port_calls::{closed, identified, polled, read_now, submitted};
 use crate::reading::ReadStatus;
 use crate::recording::{record_part, record_ports};
 use crate::refuting::refuted;
@@ -126,25 +126,6 @@ pub extern "C" fn zk_read_now(
     read_now(alloc, port, slba, nlb, buffer, status).number()
 }
 
-fn read_now(
-    alloc: Global,
-    port: &mut Handle,
-    slba: u64,
-    nlb: u16,
-    buffer: &mut [u8],
-    status: &mut ReadStatus,
-) -> Code
-    ensures { ReadsAt result port.old.held.engine port.new.held.engine slba nlb
-        (record { bytes = buffer.old; status = status.old }) (record { bytes = buffer.new; status = status.new }) }
-{
-    let Some(mut engine) = port.take(alloc) else {
-        return Code::NotOpen;
-    };
-    let code = engine.read_now(alloc, slba, nlb, buffer, status);
-    port.put(engine);
-    code
-}
-
 /// Writes the Identify Namespace data structure of the port's namespace, 4,096 bytes.
 #[unsafe(no_mangle)]
 pub extern "C" fn zk_identify(alloc: Global, port: &mut Handle, buffer: &mut [u8]) -> i32
@@ -152,17 +133,6 @@ pub extern "C" fn zk_identify(alloc: Global, port: &mut Handle, buffer: &mut [u8
         × IdentifiesAt code port.old.held.engine port.new.held.engine buffer.old buffer.new }
 {
     identified(alloc, port, buffer).number()
-}
-
-fn identified(alloc: Global, port: &mut Handle, buffer: &mut [u8]) -> Code
-    ensures { IdentifiesAt result port.old.held.engine port.new.held.engine buffer.old buffer.new }
-{
-    let Some(engine) = port.take(alloc) else {
-        return Code::NotOpen;
-    };
-    let geometry = engine.space.geometry();
-    port.put(engine);
-    report(geometry, buffer)
 }
 
 /// Writes the same structure of the namespace that is opened with these numbers, without a port.
@@ -259,46 +229,4 @@ pub extern "C" fn zk_record_part(
         (record { bytes = bytes.new; size = size.new }) }
 {
     record_part(alloc, ports, from as usize, bytes, size).number()
-}
-
-fn closed(alloc: Global, port: &mut Handle) -> Code
-    ensures { Closes result port.old.held.engine port.new.held.engine }
-{
-    match port.take(alloc) {
-        Some(engine) => {
-            drop(engine);
-            Code::Done
-        }
-        None => Code::NotOpen,
-    }
-}
-
-fn submitted(
-    alloc: Global,
-    port: &mut Handle,
-    entries: &[u8],
-    data: &mut [u8],
-    completions: &mut [u8],
-) -> Code
-    ensures { SubmitsAt result port.old.held.engine port.new.held.engine entries.now
-        (record { bytes = data.old; posted = completions.old }) (record { bytes = data.new; posted = completions.new }) }
-{
-    let Some(mut engine) = port.take(alloc) else {
-        return Code::NotOpen;
-    };
-    let code = engine.submit(alloc, entries, data, completions);
-    port.put(engine);
-    code
-}
-
-fn polled(alloc: Global, port: &mut Handle, data: &mut [u8], completions: &mut [u8]) -> Code
-    ensures { PollsAt result port.old.held.engine port.new.held.engine
-        (record { bytes = data.old; posted = completions.old }) (record { bytes = data.new; posted = completions.new }) }
-{
-    let Some(mut engine) = port.take(alloc) else {
-        return Code::NotOpen;
-    };
-    let code = engine.poll(alloc, data, completions);
-    port.put(engine);
-    code
 }

@@ -7,6 +7,7 @@
 //! [`contradiction_story`] what the contradiction says. The lines and objects of a verdict are here, too.
 #![tactic(auto)]
 
+mod between;
 mod blocks;
 mod brief;
 mod command_object;

@@ -1,9 +1,10 @@
 //! What a contradiction comes to, in a sentence for whoever has to mend the device.
-use crate::blocks::{Other, found_at, is_before, is_named, other_at, was_at_first};
+use crate::between::{Read, came_between};
+use crate::blocks::{Other, found_at, is_before, was_at_first};
 use crate::point_name::command_of;
 use crate::sources::{Owner, are_torn, parts_of, writers_of};
 use nvm_record::NoMemory;
-use nvm_standard::{Conclusion, Contradiction, Fact, Found, Point, Points};
+use nvm_standard::{Conclusion, Contradiction, Fact, Found, Points};
 use std::alloc::Global;
 
 /// Appends the sentence, without a line feed.
@@ -158,16 +159,6 @@ fn push_wrong(text: &mut String, job: u32, block: u32) -> Result<(), NoMemory> {
     )
 }
 
-/// What a point found in a block.
-#[derive(Clone, Copy)]
-struct Read<'a, 't> {
-    /// The number of the point.
-    number: u32,
-    point: &'a Point<'t>,
-    block: u32,
-    bytes: &'t [u8],
-}
-
 /// Appends whose data was found in the block, and what should have been there.
 fn push_read(
     alloc: Global,
@@ -242,68 +233,6 @@ fn push_since(
             }
         }
         None => text.push_str(", and that can't have been there then."),
-    }
-}
-
-/// A command after which a block was something else, and why; and how well it is known to whoever reads the facts.
-#[derive(Clone, Copy)]
-struct Between {
-    job: u32,
-    other: Other,
-    rank: u32,
-}
-
-/// A command after which the block was surely something else, after the writer, if there is one, and before the reader: one that the facts
-/// name, if there is one, and one that put something there, if there is one.
-fn came_between(
-    points: &Points<'_>,
-    facts: &[Fact],
-    read: &Read<'_, '_>,
-    writer: Option<u32>,
-) -> Option<Between> {
-    let mut best = None;
-    for place in 0..points.points.len() {
-        if let Ok(number) = u32::try_from(place) {
-            best = better(best, between_at(points, facts, read, writer, number));
-        }
-    }
-    best
-}
-
-/// The same of the point of this number.
-fn between_at(
-    points: &Points<'_>,
-    facts: &[Fact],
-    read: &Read<'_, '_>,
-    writer: Option<u32>,
-    number: u32,
-) -> Option<Between> {
-    let block = read.block;
-    let point = points.points.get(number as usize)?;
-    let other = other_at(points, point, block, read.bytes)?;
-    if let Some(writer) = writer {
-        if !is_before(points, facts, writer, number, block) {
-            return None;
-        }
-    }
-    if number == read.number || !is_before(points, facts, number, read.number, block) {
-        return None;
-    }
-    let by_name = if is_named(facts, number) { 2 } else { 0 };
-    let by_deed = if other == Other::Put { 1 } else { 0 };
-    Some(Between {
-        job: point.command,
-        other,
-        rank: by_name + by_deed,
-    })
-}
-
-/// The one that is better known, or else the first.
-fn better(first: Option<Between>, second: Option<Between>) -> Option<Between> {
-    match (first, second) {
-        (Some(one), Some(other)) if other.rank > one.rank => second,
-        (None, _) => second,
-        _ => first,
     }
 }
 

@@ -135,7 +135,10 @@ fn counted_parts_of<'a>(
     ensures { Gives (λ x. (x.0.items, left_of x.1)) result (items_at (λ _. part_at frame.now) 0 count (left_of from.entry)) }
 {
     if count == 1 {
-        return one_part_of(alloc, frame, from);
+        return match part_of(frame, from) {
+            Ok((part, rest)) => Ok((Parts::from_buf(alloc, [part]), rest)),
+            Err(fault) => Err(fault),
+        };
     }
     let (parts, rest) = some_parts_of(alloc, frame, count, from)?;
     Ok((Parts::from_vec(parts), rest))
@@ -157,21 +160,6 @@ fn some_parts_of<'a>(
         from,
         |_, rest| part_of(frame, rest),
     )
-}
-
-/// One part, which takes no memory.
-#[inline(always)]
-fn one_part_of<'a>(
-    alloc: Global,
-    frame: &Frame,
-    from: Rest<'a>,
-) -> Result<(Parts, Rest<'a>), RecordFault>
-    ensures { Gives (λ x. (x.0.items, left_of x.1)) result (items_at (λ _. part_at frame.now) 0 1 (left_of from.entry)) }
-{
-    match part_of(frame, from) {
-        Ok((part, rest)) => Ok((Parts::from_buf(alloc, [part]), rest)),
-        Err(fault) => Err(fault),
-    }
 }
 
 /// A part: its unit, its point, and how it ended.

@@ -1,7 +1,7 @@
 use Rattle.std.proofs.Common.{Option, rules, sym, subst}
 use Rattle.nvm_c.specs.ReadNow.{ReadBuffers, ReadsAt}
 use Rattle.nvm_c.specs.declared.engine.Engine.{Engine}
-use Rattle.nvm_c.proofs.exports.read_now.Goals as goal
+use Rattle.nvm_c.proofs.port_calls.read_now.Goals as goal
 
 pub returns : goal.returns
 returns c =

@@ -2,7 +2,7 @@ use Rattle.std.proofs.Common.{Option, rules, sym, subst}
 use Rattle.nvm_c.specs.Exports.{SubmitsAt}
 use Rattle.nvm_c.specs.Submitted.{Buffers}
 use Rattle.nvm_c.specs.declared.engine.Engine.{Engine}
-use Rattle.nvm_c.proofs.exports.submitted.Goals as goal
+use Rattle.nvm_c.proofs.port_calls.submitted.Goals as goal
 
 pub returns : goal.returns
 returns c =

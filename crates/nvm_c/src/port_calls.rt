@@ -1,0 +1,92 @@
+//! The calls on a port, each by the engine of its handle. A handle without one is not open.
+ghost use Rattle.nvm_c.specs.Exports.{Closes, PollsAt, SubmitsAt};
+ghost use Rattle.nvm_c.specs.Identify.{IdentifiesAt};
+ghost use Rattle.nvm_c.specs.ReadNow.{ReadsAt};
+
+use crate::code::Code;
+use crate::handle::Handle;
+use crate::identify::report;
+use crate::reading::ReadStatus;
+use std::alloc::Global;
+
+/// Drops the port's engine. The namespace goes with its last one.
+pub(crate) fn closed(alloc: Global, port: &mut Handle) -> Code
+    ensures { Closes result port.old.held.engine port.new.held.engine }
+{
+    match port.take(alloc) {
+        Some(engine) => {
+            drop(engine);
+            Code::Done
+        }
+        None => Code::NotOpen,
+    }
+}
+
+/// Begins a job and goes on with it.
+pub(crate) fn submitted(
+    alloc: Global,
+    port: &mut Handle,
+    entries: &[u8],
+    data: &mut [u8],
+    completions: &mut [u8],
+) -> Code
+    ensures { SubmitsAt result port.old.held.engine port.new.held.engine entries.now
+        (record { bytes = data.old; posted = completions.old }) (record { bytes = data.new; posted = completions.new }) }
+{
+    let Some(mut engine) = port.take(alloc) else {
+        return Code::NotOpen;
+    };
+    let code = engine.submit(alloc, entries, data, completions);
+    port.put(engine);
+    code
+}
+
+/// Goes on with the job that is pending.
+pub(crate) fn polled(
+    alloc: Global,
+    port: &mut Handle,
+    data: &mut [u8],
+    completions: &mut [u8],
+) -> Code
+    ensures { PollsAt result port.old.held.engine port.new.held.engine
+        (record { bytes = data.old; posted = completions.old }) (record { bytes = data.new; posted = completions.new }) }
+{
+    let Some(mut engine) = port.take(alloc) else {
+        return Code::NotOpen;
+    };
+    let code = engine.poll(alloc, data, completions);
+    port.put(engine);
+    code
+}
+
+/// Reads from what the port keeps.
+pub(crate) fn read_now(
+    alloc: Global,
+    port: &mut Handle,
+    slba: u64,
+    nlb: u16,
+    buffer: &mut [u8],
+    status: &mut ReadStatus,
+) -> Code
+    ensures { ReadsAt result port.old.held.engine port.new.held.engine slba nlb
+        (record { bytes = buffer.old; status = status.old }) (record { bytes = buffer.new; status = status.new }) }
+{
+    let Some(mut engine) = port.take(alloc) else {
+        return Code::NotOpen;
+    };
+    let code = engine.read_now(alloc, slba, nlb, buffer, status);
+    port.put(engine);
+    code
+}
+
+/// Writes the Identify page of the port's namespace.
+pub(crate) fn identified(alloc: Global, port: &mut Handle, buffer: &mut [u8]) -> Code
+    ensures { IdentifiesAt result port.old.held.engine port.new.held.engine buffer.old buffer.new }
+{
+    let Some(engine) = port.take(alloc) else {
+        return Code::NotOpen;
+    };
+    let geometry = engine.space.geometry();
+    port.put(engine);
+    report(geometry, buffer)
+}
