@@ -1,5 +1,5 @@
 //! Jobs of one part, a command by itself or a fused pair that lies in one unit, which are tried as they are submitted.
-ghost use Rattle.std.specs.Prelude.{◌≡◌, ◌⊎◌, ◌+◌, ◌*◌, ◌<◌, ◌≤◌, ℕ, List, IsTrue, None, false, length, slice_range, take};
+ghost use Rattle.std.specs.Prelude.{◌≡◌, ◌⊎◌, ◌+◌, ◌*◌, ◌≤◌, ℕ, List, IsTrue, None, false, length, slice_range, take};
 ghost use Rattle.std.specs.Bool.{OnTrue};
 ghost use Rattle.nvm_record.specs.Entry.{data_length};
 ghost use Rattle.nvm_record.specs.Op.{carries_ranges};
@@ -232,7 +232,7 @@ pub(crate) fn done_at_once(
     told_statuses_fit_their_entries();
     match space.poll_only_part(alloc, port, number, region, part, room, &Quiet) {
         Some(statuses) => {
-            let completions = reported(host, fields, statuses);
+            let completions = completions_for(host, fields, statuses);
             tell(&completions, &mut [], posted);
             true
         }
@@ -265,7 +265,7 @@ fn fits_buffer(fields: &EntryFields, size: BlockSize, data: &[u8]) -> bool
 
 /// What is reported about the job of entries with these fields, but for what a Read read.
 #[inline(always)]
-fn reported(host: u16, fields: BodyFields, statuses: Statuses) -> Completions
+fn completions_for(host: u16, fields: BodyFields, statuses: Statuses) -> Completions
     requires { (bytes compared : List ℕ) × IsForEach (body_lent fields bytes compared) statuses }
     ensures { (bytes compared : List ℕ) → result ≡ completions_of (record { host = host; body = body_lent fields bytes compared }) statuses None }
 {

@@ -1,4 +1,4 @@
-//! What C calls. Each export on a port is the call that it stands for, at the engine of its handle.
+//! What C calls. Each export has the name and the number that C sees, and hands the call on; those on one port, to `port_calls.rt`.
 ghost use Rattle.std.specs.Prelude.{◌≡◌};
 ghost use Rattle.nvm_c.specs.AuditCodes.{audit_number};
 ghost use Rattle.nvm_c.specs.Audited.{IsAudited};

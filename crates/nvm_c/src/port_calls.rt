@@ -1,4 +1,4 @@
-//! The calls on a port, each by the engine of its handle. A handle without one is not open.
+//! The calls on one port. Each takes the engine out of the handle, calls it, and puts it back, but for the one that closes. Where a handle has none, the port isn't open.
 ghost use Rattle.nvm_c.specs.Exports.{Closes, PollsAt, SubmitsAt};
 ghost use Rattle.nvm_c.specs.Identify.{IdentifiesAt};
 ghost use Rattle.nvm_c.specs.ReadNow.{ReadsAt};
@@ -9,7 +9,7 @@ use crate::identify::report;
 use crate::reading::ReadStatus;
 use std::alloc::Global;
 
-/// Drops the port's engine. The namespace goes with its last one.
+/// As `zk_close`, with the code in place of its number.
 pub(crate) fn closed(alloc: Global, port: &mut Handle) -> Code
     ensures { Closes result port.old.held.engine port.new.held.engine }
 {
@@ -22,7 +22,7 @@ pub(crate) fn closed(alloc: Global, port: &mut Handle) -> Code
     }
 }
 
-/// Begins a job and goes on with it.
+/// As `zk_submit`, with the code in place of its number.
 pub(crate) fn submitted(
     alloc: Global,
     port: &mut Handle,
@@ -41,7 +41,7 @@ pub(crate) fn submitted(
     code
 }
 
-/// Goes on with the job that is pending.
+/// As `zk_poll`, with the code in place of its number.
 pub(crate) fn polled(
     alloc: Global,
     port: &mut Handle,
@@ -59,7 +59,7 @@ pub(crate) fn polled(
     code
 }
 
-/// Reads from what the port keeps.
+/// As `zk_read_now`, with the code in place of its number.
 pub(crate) fn read_now(
     alloc: Global,
     port: &mut Handle,
@@ -79,7 +79,7 @@ pub(crate) fn read_now(
     code
 }
 
-/// Writes the Identify page of the port's namespace.
+/// As `zk_identify`, with the code in place of its number.
 pub(crate) fn identified(alloc: Global, port: &mut Handle, buffer: &mut [u8]) -> Code
     ensures { IdentifiesAt result port.old.held.engine port.new.held.engine buffer.old buffer.new }
 {

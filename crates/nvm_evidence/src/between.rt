@@ -1,16 +1,6 @@
 //! What came between a block's writer and its reader.
-use crate::blocks::{Other, is_before, is_named, other_at};
-use nvm_standard::{Fact, Point, Points};
-
-/// What a point found in a block.
-#[derive(Clone, Copy)]
-pub(crate) struct Read<'a, 't> {
-    /// The number of the point.
-    pub number: u32,
-    pub point: &'a Point<'t>,
-    pub block: u32,
-    pub bytes: &'t [u8],
-}
+use crate::blocks::{FoundBlock, Other, is_before, is_named, other_at};
+use nvm_standard::{Fact, Points};
 
 /// A command after which a block was something else, and why; and how well it is known to whoever reads the facts.
 #[derive(Clone, Copy)]
@@ -25,7 +15,7 @@ pub(crate) struct Between {
 pub(crate) fn came_between(
     points: &Points<'_>,
     facts: &[Fact],
-    read: &Read<'_, '_>,
+    read: &FoundBlock<'_, '_>,
     writer: Option<u32>,
 ) -> Option<Between> {
     let mut best = None;
@@ -37,11 +27,11 @@ pub(crate) fn came_between(
     best
 }
 
-/// The same of the point of this number.
+/// What came between by the point of this number, if it did.
 fn between_at(
     points: &Points<'_>,
     facts: &[Fact],
-    read: &Read<'_, '_>,
+    read: &FoundBlock<'_, '_>,
     writer: Option<u32>,
     number: u32,
 ) -> Option<Between> {

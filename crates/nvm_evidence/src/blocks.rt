@@ -3,6 +3,17 @@ use crate::precedence::order_of;
 use nvm_standard::{Deallocated, Fact, Found, Point, Points, Presence, Put};
 use nvm_trace::Start;
 
+/// What a point found in a block that it has.
+#[derive(Clone, Copy)]
+pub(crate) struct FoundBlock<'a, 't> {
+    /// The number of the point.
+    pub number: u32,
+    pub point: &'a Point<'t>,
+    /// The block's LBA.
+    pub block: u32,
+    pub bytes: &'t [u8],
+}
+
 /// Whether the point has the block.
 pub(crate) fn has(point: &Point<'_>, block: u32) -> bool {
     block >= point.first && block - point.first < point.blocks

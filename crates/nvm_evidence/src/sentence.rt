@@ -1,6 +1,6 @@
 //! What a contradiction comes to, in a sentence for whoever has to mend the device.
-use crate::between::{Read, came_between};
-use crate::blocks::{Other, found_at, is_before, was_at_first};
+use crate::between::came_between;
+use crate::blocks::{FoundBlock, Other, found_at, is_before, was_at_first};
 use crate::point_name::command_of;
 use crate::sources::{Owner, are_torn, parts_of, writers_of};
 use nvm_record::NoMemory;
@@ -139,7 +139,7 @@ fn push_found(
             "Job {job} read LBA {block} without an error, though a Write Uncorrectable had marked it."
         ),
         (_, Some(bytes)) => {
-            let read = Read {
+            let read = FoundBlock {
                 number: reader,
                 point,
                 block,
@@ -165,7 +165,7 @@ fn push_read(
     text: &mut String,
     points: &Points<'_>,
     facts: &[Fact],
-    read: &Read<'_, '_>,
+    read: &FoundBlock<'_, '_>,
 ) -> Result<(), NoMemory> {
     let job = read.point.command;
     let block = read.block;
@@ -197,7 +197,7 @@ fn push_data(
     text: &mut String,
     points: &Points<'_>,
     facts: &[Fact],
-    read: &Read<'_, '_>,
+    read: &FoundBlock<'_, '_>,
     writer: u32,
 ) -> Result<(), NoMemory> {
     let job = read.point.command;
@@ -221,7 +221,7 @@ fn push_since(
     text: &mut String,
     points: &Points<'_>,
     facts: &[Fact],
-    read: &Read<'_, '_>,
+    read: &FoundBlock<'_, '_>,
     writer: Option<u32>,
 ) -> Result<(), NoMemory> {
     match came_between(points, facts, read, writer) {

@@ -10,8 +10,8 @@ use Rattle.nvm_c.specs.Told.{FitEntries, all_posted}
 use Rattle.nvm_c.proofs.AtOnce.{fit_alike, posted_alike}
 use Rattle.nvm_c.proofs.at_once.done_at_once.Goals as goal
 
-pub reported-completions-requires : goal.reported-completions-requires
-reported-completions-requires c =
+pub completions_for-completions-requires : goal.completions_for-completions-requires
+completions_for-completions-requires c =
     let payload = c.requires.only.0 in
     let compared = c.requires.only.1 in
     let job : Job = record { host = c.args.host; body = body_lent c.args.fields payload compared } in
@@ -25,7 +25,7 @@ tell-requires-clause-fit c =
     let did = c.in-Some.ensures.goes job (views_of c.args.port.now.passes) c.requires.only.2 (inl refl) in
     let told : JobDone = record { completions = body_completions c.args.host job.body c.in-Some.statuses did.read; parts = record { items = []; capacity = 1 } } in
     let does = did.does told refl refl in
-    subst FitEntries (sym (c.reported-completions.ensures payload compared))
+    subst FitEntries (sym (c.completions_for-completions.ensures payload compared))
     (fit_alike c.args.host job.body c.in-Some.statuses did.read (c.told_statuses_fit_their_entries.ensures.fit _ _ _ _ _ _ _ does))
 
 pub returns-in-Some-clause-goes : goal.returns-in-Some-clause-goes
@@ -36,7 +36,7 @@ returns-in-Some-clause-goes c = λ payload compared start only waited.
     let does = did.does told refl refl in (
       told,
       subst (λ (lists : Bool). DoesJob c.args.space.now.namespace lists c.args.number job start (views_of c.poll_only_part.new.port.passes) told) (sym c.requires.unlisted) does,
-      c.tell.ensures.entries ∙ ap all_posted (c.reported-completions.ensures payload compared) ∙ posted_alike c.args.host job.body c.in-Some.statuses did.read,
+      c.tell.ensures.entries ∙ ap all_posted (c.completions_for-completions.ensures payload compared) ∙ posted_alike c.args.host job.body c.in-Some.statuses did.read,
       did.buffer,
     )
 
