@@ -4,6 +4,7 @@ use anyhow::{Result, bail};
 use nvm_audit::Record;
 use nvm_judge::Judgment;
 use nvm_plan::Job;
+use nvm_search::Searches;
 use nvm_standard::{Deallocated, Held, Profile, points_of};
 use nvm_store::Limit;
 use nvm_trace::{Judging, Trace, witness_alone};
@@ -53,7 +54,7 @@ pub fn recorded(
     };
     println!(rt; "record_of: {} jobs", done.jobs.len())?;
     kept(rt, seen, &done)?;
-    let said = judge::is_explained(alloc, seen, PROFILE, 100)?;
+    let said = judge::is_explained(alloc, &Searches, seen, PROFILE, 100)?;
     println!(rt; "is_explained: {said:?}")?;
     Ok(())
 }
@@ -79,7 +80,7 @@ pub fn judged(rt: &(impl AllocGlobal + Print), text: &str) -> Result<()> {
     let alloc = rt.alloc();
     let text = text.replacen(alloc, "2048*41\n", "2048*43\n", 1)?;
     let seen = trace_of_text(alloc, text.as_bytes())?;
-    let judgment = nvm_judge::judge(alloc, &seen, PROFILE, 100)?;
+    let judgment = nvm_judge::judge(alloc, &Searches, &seen, PROFILE, 100)?;
     let Judgment::Contradicted(found) = &judgment else {
         bail!("there is no contradiction");
     };

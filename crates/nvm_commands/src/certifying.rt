@@ -21,7 +21,7 @@ use nvm_evidence::{
     explained_text, most_together, unknown_object, unknown_text, write_contradiction, write_order,
     wrong_object, wrong_text,
 };
-use nvm_judge::{Judgment, Stop, judge};
+use nvm_judge::{Judgment, Search, Stop, judge};
 use nvm_record::NoMemory;
 use nvm_standard::{Contradiction, Order, Profile};
 use nvm_trace::Trace;
@@ -54,15 +54,16 @@ pub struct CertifiedTrace {
 
 /// Certifies the trace at a path, prints what was found out, and gives the exit status. The evidence is written first where it is to be
 /// kept, so that no text is printed of one that couldn't be.
-pub fn run_certify<R: AllocGlobal + Files + Input + Print + Eprint>(
+pub fn run_certify<R: AllocGlobal + Files + Input + Print + Eprint, S: Search>(
     rt: &R,
+    search: &S,
     words: &CertifyWords,
     progress: &Progress<'_, R>,
 ) -> Result<u8, Failure>
     ensures fault { IfErr result (λ failure. IsCertifyingFault words.now failure.fault) }
 {
     check_evidence(rt, words)?;
-    let told = certified(rt, words, progress)?;
+    let told = certified(rt, search, words, progress)?;
     kept(rt, words, &told, progress)?;
     write_bytes(rt, STANDARD, told.text.as_bytes(), progress)?;
     Ok(told.status)
@@ -103,8 +104,9 @@ fn kept<R: AllocGlobal + Files + Print + Eprint>(
 }
 
 /// What is found out about the trace at a path.
-fn certified<R: AllocGlobal + Files + Input + Eprint>(
+fn certified<R: AllocGlobal + Files + Input + Eprint, S: Search>(
     rt: &R,
+    search: &S,
     words: &CertifyWords,
     progress: &Progress<'_, R>,
 ) -> Result<CertifiedTrace, Failure>
@@ -113,17 +115,22 @@ fn certified<R: AllocGlobal + Files + Input + Eprint>(
         ⊎ IsFaultOfTraceAt (string_bytes words.now.trace) failure.fault) }
 {
     let trace = read_as_trace(rt, words.trace.as_str(), progress)?;
-    let told = found(rt.alloc(), words, &trace)?;
+    let told = found(rt.alloc(), search, words, &trace)?;
     forget(trace);
     Ok(told)
 }
 
 /// What is found out about the trace.
-fn found(alloc: Global, words: &CertifyWords, trace: &Trace) -> Result<CertifiedTrace, NoMemory>
+fn found<S: Search>(
+    alloc: Global,
+    search: &S,
+    words: &CertifyWords,
+    trace: &Trace,
+) -> Result<CertifiedTrace, NoMemory>
     ensures { IfOk result (IsToldOf (profile_asked words.now «trace».now) «trace».now) }
 {
     let profile = words.profile(trace);
-    match judge(alloc, trace, profile, words.effort)? {
+    match judge(alloc, search, trace, profile, words.effort)? {
         Judgment::Explained(order) => by_order(alloc, words.telling, trace, profile, &order),
         Judgment::Contradicted(contradiction) => {
             by_contradiction(alloc, words, trace, profile, &contradiction)

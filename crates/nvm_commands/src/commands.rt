@@ -16,6 +16,7 @@ use crate::read_list::split_list;
 use crate::running::run_lists;
 use crate::tracing::run_trace;
 use crate::words::{Asked, read_words};
+use nvm_judge::Search;
 use nvm_record::BlockSize;
 use std::rt::{Env, Files};
 use std::sync::Wait;
@@ -25,14 +26,14 @@ use std::thread::Threads;
 pub const NVQ: &str = "nvq";
 
 /// Does what the words of the command line ask for, and gives the exit status: 0, that of a verdict, or 1 after a
-/// fault.
-pub fn nvq_status<R: AllocGlobal + Env + Files + Input + Print + Eprint + Threads + Wait + Sync>(
-    rt: &R,
-    progress: &Progress<'_, R>,
-) -> u8 {
+/// fault. `search` is who looks for the evidence of a trace's verdict.
+pub fn nvq_status<
+    R: AllocGlobal + Env + Files + Input + Print + Eprint + Threads + Wait + Sync,
+    S: Search,
+>(rt: &R, search: &S, progress: &Progress<'_, R>) -> u8 {
     match asked(rt) {
         Ok(asked) => {
-            let ended = run(rt, asked, progress);
+            let ended = run(rt, search, asked, progress);
             progress.clear();
             match ended {
                 Ok(status) => status,
@@ -58,8 +59,9 @@ fn asked<R: AllocGlobal + Env>(rt: &R) -> Result<Asked, WordFault> {
 
 /// Does what is asked, and gives the exit status. After a fault no file is written, but lists of a load before one that couldn't take its
 /// place; of standard output there may be a front where it took no more.
-fn run<R: AllocGlobal + Files + Input + Print + Eprint + Threads + Wait + Sync>(
+fn run<R: AllocGlobal + Files + Input + Print + Eprint + Threads + Wait + Sync, S: Search>(
     rt: &R,
+    search: &S,
     asked: Asked,
     progress: &Progress<'_, R>,
 ) -> Result<u8, Failure> {
@@ -80,7 +82,7 @@ fn run<R: AllocGlobal + Files + Input + Print + Eprint + Threads + Wait + Sync>(
             let (trace, record) = (words.trace.as_str(), words.record.as_str());
             return run_witness(rt, words.judging, trace, record, progress);
         }
-        Asked::Certify(words) => return run_certify(rt, &words, progress),
+        Asked::Certify(words) => return run_certify(rt, search, &words, progress),
         Asked::Explain(words) => run_explain(rt, &words, progress)?,
     }
     Ok(0)

@@ -4,8 +4,8 @@ ghost use Rattle.nvm_judge.specs.Judged.{IsFoundOf, IsJudged};
 ghost use Rattle.nvm_standard.specs.PointView.{seen_table};
 
 use crate::judgment::Judgment;
+use crate::search::{Search, Stop};
 use nvm_record::NoMemory;
-use nvm_search::{Stop, contradiction_of, order_of};
 use nvm_standard::{
     ContradictionFault, Held, OrderFault, Points, PointsFault, Profile, contradicts, explains,
     points_of,
@@ -34,15 +34,16 @@ pub fn profile_of(trace: &Trace) -> Profile
 }
 
 /// What a search for a contradiction of the points finds out. `stop`: why one for an order ended.
-fn contradicted<'t>(
+fn contradicted<'t, S: Search>(
     alloc: Global,
+    search: &S,
     points: &Points<'t>,
     effort: u32,
     stop: Stop,
 ) -> Result<Judgment<'t>, NoMemory>
     ensures { IfOk result (IsFoundOf (seen_table points.now)) }
 {
-    let Some(contradiction) = contradiction_of(alloc, points, effort)? else {
+    let Some(contradiction) = search.contradiction_of(alloc, points, effort)? else {
         return Ok(Judgment::Unknown(stop));
     };
     match contradicts(alloc, points, &contradiction) {
@@ -53,10 +54,15 @@ fn contradicted<'t>(
 }
 
 /// What a search for an order of the points finds out.
-fn ordered<'t>(alloc: Global, points: &Points<'t>, effort: u32) -> Result<Judgment<'t>, NoMemory>
+fn ordered<'t, S: Search>(
+    alloc: Global,
+    search: &S,
+    points: &Points<'t>,
+    effort: u32,
+) -> Result<Judgment<'t>, NoMemory>
     ensures { IfOk result (IsFoundOf (seen_table points.now)) }
 {
-    let order = match order_of(alloc, points, effort)? {
+    let order = match search.order_of(alloc, points, effort)? {
         Ok(order) => order,
         Err(stop) => return Ok(Judgment::Unknown(stop)),
     };
@@ -74,28 +80,34 @@ fn short_effort(points: &Points<'_>) -> u32 {
 
 /// What searches among the points find out: a short one for an order, one for a contradiction, and where both found nothing a long one
 /// for an order.
-fn searched<'t>(alloc: Global, points: &Points<'t>, effort: u32) -> Result<Judgment<'t>, NoMemory>
+fn searched<'t, S: Search>(
+    alloc: Global,
+    search: &S,
+    points: &Points<'t>,
+    effort: u32,
+) -> Result<Judgment<'t>, NoMemory>
     ensures { IfOk result (IsFoundOf (seen_table points.now)) }
 {
     let short = short_effort(points);
-    let stop = match ordered(alloc, points, effort.min(short))? {
+    let stop = match ordered(alloc, search, points, effort.min(short))? {
         Judgment::Unknown(stop) => stop,
         found => return Ok(found),
     };
-    match contradicted(alloc, &*points, effort, stop)? {
-        Judgment::Unknown(Stop::Effort) if effort > short => ordered(alloc, points, effort),
+    match contradicted(alloc, search, &*points, effort, stop)? {
+        Judgment::Unknown(Stop::Effort) if effort > short => ordered(alloc, search, points, effort),
         found => Ok(found),
     }
 }
 
 /// Whether an order explains the trace, held to this profile, or a contradiction shows that none does, or a reply is wrong by itself.
 ///
-/// Each search goes on for as long as `effort` allows. `Unknown` is given where both found nothing, or nothing that is taken, with
+/// `search` looks for the one and the other, each for as long as `effort` allows. `Unknown` is given where both found nothing, or nothing that is taken, with
 /// why the one for an order ended.
 /// `NoMemory` is returned where a growth was refused: nothing is known then.
 #[tactic(auto, using(crate::proofs::Wrong::is_wrong))]
-pub fn judge<'t>(
+pub fn judge<'t, S: Search>(
     alloc: Global,
+    search: &S,
     trace: &'t Trace,
     profile: Profile,
     effort: u32,
@@ -103,7 +115,7 @@ pub fn judge<'t>(
     ensures { IfOk result (IsJudged trace.entry.now profile) }
 {
     match points_of(alloc, trace, profile) {
-        Ok(points) => searched(alloc, &points, effort),
+        Ok(points) => searched(alloc, search, &points, effort),
         Err(PointsFault::Wrong { command }) => Ok(Judgment::Wrong { command }),
         Err(PointsFault::NoMemory) => Err(AllocError),
     }

@@ -1,4 +1,4 @@
-use nvm_search::Stop;
+use crate::search::Stop;
 use nvm_standard::{Contradiction, Order};
 
 /// What was found out about a trace.

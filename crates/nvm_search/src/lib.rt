@@ -1,7 +1,7 @@
 //! The searches for evidence of a trace's verdict: an order of its points that explains it, and a contradiction among them.
 //!
-//! [`order_of`] looks for the one, and [`contradiction_of`] for the other; both number what they compare (`numbers`). Nothing here is
-//! trusted: an order counts only where [`explains`](nvm_standard::explains) takes it, and a contradiction only where
+//! `order_of` looks for the one, and `contradiction_of` for the other; both number what they compare (`numbers`). Nothing here is
+//! trusted, and no other crate but the program `nvq` stands on it: an order counts only where [`explains`](nvm_standard::explains) takes it, and a contradiction only where
 //! [`contradicts`](nvm_standard::contradicts) does.
 #![tactic(auto)]
 
@@ -9,5 +9,34 @@ mod contradiction;
 mod numbers;
 mod order;
 
-pub use contradiction::contradiction_of;
-pub use order::{Stop, order_of};
+use nvm_judge::{Search, Stop};
+use nvm_record::NoMemory;
+use nvm_standard::{Contradiction, Order, Points};
+use std::alloc::Global;
+
+/// The searches of this crate.
+#[derive(Clone, Copy)]
+pub struct Searches;
+
+impl Search for Searches {
+    /// For each of `effort` some hundred acts are looked at.
+    fn order_of<'t>(
+        &self,
+        alloc: Global,
+        points: &Points<'t>,
+        effort: u32,
+    ) -> Result<Result<Order<'t>, Stop>, NoMemory> {
+        order::order_of(alloc, points, effort)
+    }
+
+    /// `effort` is how many points, each at one of its blocks, are looked at together at most, from 64 to 2,048. Of more those that are
+    /// near in time are, so a contradiction may be missed.
+    fn contradiction_of(
+        &self,
+        alloc: Global,
+        points: &Points<'_>,
+        effort: u32,
+    ) -> Result<Option<Contradiction>, NoMemory> {
+        contradiction::contradiction_of(alloc, points, effort)
+    }
+}

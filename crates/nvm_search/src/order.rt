@@ -16,4 +16,4 @@ mod slots;
 mod state;
 mod together;
 
-pub use merging::{Stop, order_of};
+pub use merging::order_of;

@@ -6,6 +6,7 @@ use crate::order::parts::{Share, shares_of};
 use crate::order::ranks::Ranks;
 use crate::order::search::{Search, Step};
 use crate::order::together::done_together;
+use nvm_judge::Stop;
 use nvm_record::NoMemory;
 use nvm_standard::{Content, FirstContent, Order, Placed, Point, Points, Presence, Value};
 use std::alloc::Global;
@@ -21,15 +22,6 @@ const EACH_ACT: u64 = 8;
 const TRIES: u64 = 32;
 /// How many acts may be looked at for each of the effort.
 const EACH: u64 = 100;
-
-/// Why a search that found no order ended.
-#[derive(Clone, Copy, Debug, PartialEq, Eq)]
-pub enum Stop {
-    /// It went on for as long as it might: a longer one may find an order.
-    Effort,
-    /// No order explains the points.
-    Everything,
-}
 
 /// A step of a part, by the latest time at which it or one before it in the part began. Merged by these times the parts' orders keep
 /// all times.
