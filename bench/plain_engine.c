@@ -12,6 +12,7 @@
 #undef zk_open
 #undef zk_close
 #undef zk_submit
+#undef zk_submit_pair
 #undef zk_poll
 #undef zk_data_length
 #undef zk_identify_namespace
@@ -178,7 +179,7 @@ static uint16_t single(struct engine *of, const struct command *it, const uint8_
 }
 
 /* The statuses of a pair. */
-static void pair(struct engine *of, const struct command *first, const struct command *second, uint8_t *data, uint16_t told[2])
+static inline __attribute__((always_inline)) void pair(struct engine *of, const struct command *first, const struct command *second, const uint8_t *expected, uint8_t *written, uint16_t told[2])
 {
     told[1] = FAILED_FUSED;
     if (first->opcode != COMPARE || second->opcode != WRITE || (first->nsid == 1 && second->nsid == 1 && (first->slba != second->slba || first->blocks != second->blocks)))
@@ -192,9 +193,9 @@ static void pair(struct engine *of, const struct command *first, const struct co
     else {
         pthread_mutex_t *unit = &of->units[unit_of(of, first->slba)];
         pthread_mutex_lock(unit);
-        told[0] = compared(of, first->slba, first->blocks, data);
+        told[0] = compared(of, first->slba, first->blocks, expected);
         if (told[0] == OK)
-            told[1] = part(of, WRITE, first->slba, first->blocks, data + (size_t)first->blocks * of->ns.block_size);
+            told[1] = part(of, WRITE, first->slba, first->blocks, written);
         pthread_mutex_unlock(unit);
     }
 }
@@ -269,10 +270,30 @@ int zk_submit(struct zk_port *port, const uint8_t *entries, size_t entries_lengt
     if (count == 1)
         told[0] = single(of, &first, entries, data);
     else
-        pair(of, &first, &second, data, told);
+        pair(of, &first, &second, data, data + carried(&first, entries, of->ns.block_size), told);
     complete(completions, (uint16_t)port->opaque[1], first.cid, told[0]);
     if (count == 2)
         complete(completions + ZK_COMPLETION_BYTES, (uint16_t)port->opaque[1], second.cid, told[1]);
+    return ZK_DONE;
+}
+
+int zk_submit_pair(struct zk_port *port, const uint8_t *entries, size_t entries_length, const uint8_t *expected, size_t expected_length, const uint8_t *written,
+                   size_t written_length, uint8_t *completions, size_t completions_length)
+{
+    struct engine *of = (struct engine *)(uintptr_t)port->opaque[0];
+    uint16_t told[2] = { OK, OK };
+    if (!of)
+        return ZK_NOT_OPEN;
+    if (entries_length != 2 * ZK_ENTRY_BYTES || completions_length != 2 * ZK_COMPLETION_BYTES)
+        return ZK_BAD_LENGTH;
+    struct command first = read_entry(entries), second = read_entry(entries + ZK_ENTRY_BYTES);
+    if (first.fuse != FUSED_FIRST || second.fuse != FUSED_SECOND || !is_served(first.opcode) || !is_served(second.opcode))
+        return ZK_NO_PAIR;
+    if (expected_length != carried(&first, entries, of->ns.block_size) || written_length != carried(&second, entries + ZK_ENTRY_BYTES, of->ns.block_size))
+        return ZK_BAD_LENGTH;
+    pair(of, &first, &second, expected, (uint8_t *)(uintptr_t)written, told);
+    complete(completions, (uint16_t)port->opaque[1], first.cid, told[0]);
+    complete(completions + ZK_COMPLETION_BYTES, (uint16_t)port->opaque[1], second.cid, told[1]);
     return ZK_DONE;
 }
 

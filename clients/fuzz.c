@@ -346,8 +346,12 @@ static void compare_and_write(struct space *s, const struct command *c, const st
     }
 }
 
-/* What a submission may answer. Where it isn't refused by a code, the thread's own blocks are as after it. */
-static void expect(struct space *s, const uint8_t *entries, size_t entries_length, const uint8_t *data, size_t data_length,
+/* The data of a submission is in one piece. */
+#define UNCUT SIZE_MAX
+
+/* What a submission may answer, with its data in two pieces where `cut` says how long the first one is. Where it isn't refused by a code, the
+ * thread's own blocks are as after it. */
+static void expect(struct space *s, const uint8_t *entries, size_t entries_length, const uint8_t *data, size_t data_length, size_t cut,
                    size_t completions_length, struct expected *x)
 {
     memset(x, 0, sizeof *x);
@@ -355,7 +359,7 @@ static void expect(struct space *s, const uint8_t *entries, size_t entries_lengt
         x->codes = BIT(ZK_NOT_OPEN);
         return;
     }
-    if (entries_length != ZK_ENTRY_BYTES && entries_length != 2 * ZK_ENTRY_BYTES) {
+    if (entries_length != 2 * ZK_ENTRY_BYTES && (cut != UNCUT || entries_length != ZK_ENTRY_BYTES)) {
         x->codes = BIT(ZK_BAD_LENGTH);
         return;
     }
@@ -373,7 +377,7 @@ static void expect(struct space *s, const uint8_t *entries, size_t entries_lengt
     } else if (c->opcode == READ) {
         called = c->blocks * s->ns.block_size;
     }
-    if (data_length != called || completions_length != (x->pair ? 2 : 1) * ZK_COMPLETION_BYTES)
+    if (data_length != called || (cut != UNCUT && cut != c->called) || completions_length != (x->pair ? 2 : 1) * ZK_COMPLETION_BYTES)
         x->codes |= BIT(ZK_BAD_LENGTH);
     if (x->codes)
         return;
@@ -599,9 +603,13 @@ static bool try_submit(struct worker *w, struct space *s)
     memcpy(told_before, told, sizeof told);
     memcpy(w->before, w->data, length);
 
+    size_t cut = UNCUT;
+    if (below(w, pair ? 2 : 24) == 0)
+        cut = c.called <= length && below(w, 16) ? c.called : below(w, length + 1);
     struct expected x;
-    expect(s, entries, entries_length, w->before, length, told_length, &x);
-    int code = zk_submit(s->port, entries, entries_length, w->data, length, told, told_length);
+    expect(s, entries, entries_length, w->before, length, cut, told_length, &x);
+    int code = cut == UNCUT ? zk_submit(s->port, entries, entries_length, w->data, length, told, told_length)
+                            : zk_submit_pair(s->port, entries, entries_length, w->data, cut, w->data + cut, length - cut, told, told_length);
     if (!judge_code(w, "submit", entries, code, x.codes))
         return false;
     if (code != ZK_DONE && !is_same(w, "written by a submit", entries, told, told_before, sizeof told, length))
@@ -784,7 +792,7 @@ static bool read_back(struct worker *w, struct space *s)
         entry_of(entry, READ, 0, (uint16_t)lba, lba, (uint32_t)count);
         memset(w->data, 0x44, length);
         memcpy(w->before, w->data, length);
-        expect(s, entry, 64, w->before, length, 16, &x);
+        expect(s, entry, 64, w->before, length, UNCUT, 16, &x);
         int code = zk_submit(s->port, entry, 64, w->data, length, told, 16);
         if (!judge_code(w, "read back", entry, code, x.codes))
             return false;

@@ -35,7 +35,7 @@ enum state {
     RECORDED_STARVED
 };
 
-enum call { OPENS, CLOSES, SUBMITS, POLLS, IDENTIFIES, IDENTIFIES_NAMESPACE, READS_NOW, RECORDS, RECORDS_PART };
+enum call { OPENS, CLOSES, SUBMITS, SUBMITS_PAIR, POLLS, IDENTIFIES, IDENTIFIES_NAMESPACE, READS_NOW, RECORDS, RECORDS_PART };
 
 struct row {
     int code;
@@ -47,7 +47,7 @@ struct row {
     /* The opcodes and the FUSE bits of a submission, the LBA and NLB of zk_read_now, the first port of zk_record, and where a piece begins. */
     uint64_t first, second;
     struct zk_namespace ns;
-    uint32_t limit;
+    uint32_t limit; /* of zk_open; of zk_submit_pair the length of the second piece, where `data` is that of the first */
 };
 
 #define USUAL { 64, BLOCK, 7, 0, 7, 7 }, 100
@@ -55,6 +55,8 @@ struct row {
 #define CLOSE_ROW(code, state, misuse) { code, CLOSES, state, misuse, 0, 0, 0, 0, 0, USUAL }
 #define SUBMIT_ROW(code, state, misuse, entries, data, completions, first, second) \
     { code, SUBMITS, state, misuse, entries, data, completions, first, second, USUAL }
+#define PAIR_ROW(code, state, misuse, entries, compared, written, completions, first, second) \
+    { code, SUBMITS_PAIR, state, misuse, entries, compared, completions, first, second, { 64, BLOCK, 7, 0, 7, 7 }, written }
 #define POLL_ROW(code, state, misuse, data, completions) { code, POLLS, state, misuse, 0, data, completions, 0, 0, USUAL }
 #define IDENTIFY_ROW(code, state, misuse, data) { code, IDENTIFIES, state, misuse, 0, data, 0, 0, 0, USUAL }
 #define NAMESPACE_ROW(code, state, misuse, data, ...) { code, IDENTIFIES_NAMESPACE, state, misuse, 0, data, 0, 0, 0, { __VA_ARGS__ }, 0 }
@@ -173,6 +175,19 @@ static const struct row rows[] = {
     OPEN_ROW(ZK_DONE, CLOSED, "open again", 2, ZK_MOST_CHANGES, 65536, 4096, 15, 0, 15, 0),
     CLOSE_ROW(ZK_DONE, OPEN, "close"),
     CLOSE_ROW(ZK_DONE, PENDING, "close while a command is pending"),
+    PAIR_ROW(ZK_NOT_OPEN, SHUT, "a pair in pieces to a port that was never opened", 128, BLOCK, BLOCK, 32, FIRST(COMPARE), SECOND_OF(WRITE)),
+    PAIR_ROW(ZK_BUSY, PENDING, "a pair in pieces while a command is pending", 128, BLOCK, BLOCK, 32, FIRST(COMPARE), SECOND_OF(WRITE)),
+    PAIR_ROW(ZK_BAD_LENGTH, OPEN, "a Write in pieces", 64, 0, BLOCK, 16, WRITE, 0),
+    PAIR_ROW(ZK_BAD_LENGTH, OPEN, "a pair in pieces cut a byte early", 128, BLOCK - 1, BLOCK + 1, 32, FIRST(COMPARE), SECOND_OF(WRITE)),
+    PAIR_ROW(ZK_BAD_LENGTH, OPEN, "a pair in pieces with a byte too few for the second", 128, BLOCK, BLOCK - 1, 32, FIRST(COMPARE), SECOND_OF(WRITE)),
+    PAIR_ROW(ZK_BAD_LENGTH, OPEN, "a pair in pieces with room for one completion", 128, BLOCK, BLOCK, 16, FIRST(COMPARE), SECOND_OF(WRITE)),
+    PAIR_ROW(ZK_BAD_LENGTH, RECORDED, "a recorded pair in pieces cut a byte late", 128, BLOCK + 1, BLOCK - 1, 32, FIRST(COMPARE), SECOND_OF(WRITE)),
+    PAIR_ROW(ZK_NO_PAIR, OPEN, "two entries in pieces that aren't fused", 128, BLOCK, BLOCK, 32, WRITE, WRITE),
+    PAIR_ROW(ZK_NO_MEMORY, STARVED, "a pair in pieces without memory", 128, BLOCK, BLOCK, 32, FIRST(COMPARE), SECOND_OF(WRITE)),
+    PAIR_ROW(ZK_PENDING, TAKEN, "a pair in pieces while the unit is held", 128, BLOCK, BLOCK, 32, FIRST(COMPARE), SECOND_OF(WRITE)),
+    PAIR_ROW(ZK_DONE, OPEN, "a pair in pieces", 128, BLOCK, BLOCK, 32, FIRST(COMPARE), SECOND_OF(WRITE)),
+    PAIR_ROW(ZK_DONE, RECORDED, "a recorded pair in pieces", 128, BLOCK, BLOCK, 32, FIRST(COMPARE), SECOND_OF(WRITE)),
+    PAIR_ROW(ZK_DONE, SETTLED, "a pair in pieces in the place of another, without memory", 128, BLOCK, BLOCK, 32, FIRST(COMPARE), SECOND_OF(WRITE)),
     SUBMIT_ROW(ZK_PENDING, TAKEN, "a Write while the unit is held", 64, BLOCK, 16, WRITE, 0),
     SUBMIT_ROW(ZK_PENDING, TAKEN, "a Read while the unit is held", 64, BLOCK, 16, READ, 0),
     SUBMIT_ROW(ZK_DONE, TAKEN, "an unknown opcode while the unit is held", 64, 0, 16, 0x7f, 0),
@@ -388,6 +403,9 @@ static int call(const struct row *row, struct written *written)
         return zk_close(ports);
     case SUBMITS:
         return zk_submit(ports, entries, row->entries, written->data, row->data, written->completions, row->completions);
+    case SUBMITS_PAIR:
+        return zk_submit_pair(ports, entries, row->entries, written->data, row->data, written->data + row->data, row->limit, written->completions,
+                              row->completions);
     case POLLS:
         return zk_poll(ports, written->data, row->data, written->completions, row->completions);
     case IDENTIFIES:
@@ -463,11 +481,14 @@ static const uint8_t no_points[] = { 'N', 'V', 'E', '1', 1, 0, 2, 0, 0, 0, 0, 0,
 static bool nulls_are_answered(void)
 {
     uint8_t entry[ZK_ENTRY_BYTES], block[BLOCK], told[ZK_COMPLETION_BYTES], line[ZK_LINE_BYTES], zeroes[ZK_ENTRY_BYTES];
+    uint8_t pair[2 * ZK_ENTRY_BYTES], both[2 * ZK_COMPLETION_BYTES];
     static uint8_t room[ZK_IDENTIFY_BYTES];
     struct zk_status status;
     size_t length = 0;
     entry_of(entry, WRITE, 0, 1, 0, 1);
     entry_of(zeroes, WRITE_ZEROES, 0, 1, 0, 1);
+    entry_of(pair, COMPARE, FUSED_FIRST, 1, 0, 1);
+    entry_of(pair + ZK_ENTRY_BYTES, WRITE, FUSED_SECOND, 2, 0, 1);
     memset(block, 7, sizeof block);
     recorded = true;
     if (!open_all(true))
@@ -483,6 +504,12 @@ static bool nulls_are_answered(void)
         { "a Write of NULL without a length", ZK_BAD_LENGTH, zk_submit(port, entry, sizeof entry, NULL, 0, told, sizeof told) },
         { "submit with NULL for its completion", ZK_BAD_LENGTH, zk_submit(port, entry, sizeof entry, block, BLOCK, NULL, sizeof told) },
         { "Write Zeroes with NULL for its data", ZK_DONE, zk_submit(port, zeroes, sizeof zeroes, NULL, 0, told, sizeof told) },
+        { "a pair in pieces to NULL", ZK_NOT_OPEN, zk_submit_pair(NULL, pair, sizeof pair, block, BLOCK, block, BLOCK, both, sizeof both) },
+        { "a pair in pieces of NULL", ZK_BAD_LENGTH, zk_submit_pair(port, NULL, sizeof pair, block, BLOCK, block, BLOCK, both, sizeof both) },
+        { "a pair's first piece NULL", ZK_BAD_LENGTH, zk_submit_pair(port, pair, sizeof pair, NULL, BLOCK, block, BLOCK, both, sizeof both) },
+        { "a pair's second piece NULL", ZK_BAD_LENGTH, zk_submit_pair(port, pair, sizeof pair, block, BLOCK, NULL, BLOCK, both, sizeof both) },
+        { "a pair in pieces with NULL for its completions", ZK_BAD_LENGTH, zk_submit_pair(port, pair, sizeof pair, block, BLOCK, block, BLOCK, NULL, sizeof both) },
+        { "a pair whose pieces are the same bytes", ZK_DONE, zk_submit_pair(port, pair, sizeof pair, block, BLOCK, block, BLOCK, both, sizeof both) },
         { "poll of NULL", ZK_NOT_OPEN, zk_poll(NULL, block, BLOCK, told, sizeof told) },
         { "poll with NULL for its completion", ZK_BAD_LENGTH, zk_poll(port, block, BLOCK, NULL, sizeof told) },
         { "poll of an idle port with NULL for its data", ZK_IDLE, zk_poll(port, NULL, 0, told, sizeof told) },

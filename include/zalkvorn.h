@@ -37,7 +37,7 @@ extern "C" {
 #endif
 
 /* The version of this header, and the number behind libzalkvorn.so. The library's, zk_version(), must be equal. */
-#define ZK_VERSION 6
+#define ZK_VERSION 7
 
 /* The most blocks of a namespace, and of one that is recorded. */
 #define ZK_MOST_BLOCKS (UINT64_C(1) << 40)
@@ -178,6 +178,15 @@ int zk_close(struct zk_port *port);
  * Threads: one call at a time on a port; ports of one namespace may be used at the same time. */
 int zk_submit(struct zk_port *port, const uint8_t *entries, size_t entries_length, uint8_t *data, size_t data_length,
               uint8_t *completions, size_t completions_length);
+
+/* As zk_submit with two entries, whose data comes in two pieces, each as long as zk_data_length gives for its entry alone: so the
+ * buffers of a fused Compare and Write need not be copied behind each other. Neither is written, and they may overlap. A Read's
+ * piece, which makes it no pair, has no bytes.
+ * Answers as zk_submit does of the two pieces behind each other, and ZK_BAD_LENGTH for anything but two entries.
+ * Threads: as zk_submit. */
+int zk_submit_pair(struct zk_port *port, const uint8_t *entries, size_t entries_length, const uint8_t *compared,
+                   size_t compared_length, const uint8_t *written, size_t written_length, uint8_t *completions,
+                   size_t completions_length);
 
 /* The one length of `data` that zk_submit takes with `count` entries, 1 or 2, in a namespace of blocks of `block_size` bytes: NLB
  * + 1 blocks for a Write, Compare or Read, 16 bytes for each of the NR + 1 ranges of a Dataset Management, and 0 for any other
@@ -343,6 +352,19 @@ static inline int zk_submit_or_null(struct zk_port *port, const uint8_t *entries
     return zk_submit(port, entries, entries_length, data ? data : &none, data_length, completions, completions_length);
 }
 
+static inline int zk_submit_pair_or_null(struct zk_port *port, const uint8_t *entries, size_t entries_length, const uint8_t *compared,
+                                         size_t compared_length, const uint8_t *written, size_t written_length,
+                                         uint8_t *completions, size_t completions_length)
+{
+    static const uint8_t none[1] = { 0 };
+    if (!port)
+        return ZK_NOT_OPEN;
+    if (!entries || !completions || (!compared && compared_length) || (!written && written_length))
+        return ZK_BAD_LENGTH;
+    return zk_submit_pair(port, entries, entries_length, compared ? compared : none, compared_length, written ? written : none,
+                          written_length, completions, completions_length);
+}
+
 static inline size_t zk_data_length_or_null(const uint8_t *entries, size_t count, uint32_t block_size)
 {
     return !entries ? ZK_NO_LENGTH : zk_data_length(entries, count, block_size);
@@ -424,6 +446,7 @@ static inline int zk_record_part_or_null(struct zk_port *ports, size_t count, ui
 #define zk_open zk_open_or_null
 #define zk_close zk_close_or_null
 #define zk_submit zk_submit_or_null
+#define zk_submit_pair zk_submit_pair_or_null
 #define zk_data_length zk_data_length_or_null
 #define zk_poll zk_poll_or_null
 #define zk_identify zk_identify_or_null

@@ -56,18 +56,18 @@ void connection_drop_event_requests(struct connection *it)
     it->event_requests = 0;
 }
 
-/* Has the command's data in memory of its own, with room for `room` bytes. False where memory is refused: then it is refused, too. */
-static bool keep_data(struct command *command, size_t room)
+/* Has the command's data in memory of its own. False where memory is refused: then it is refused, too. */
+static bool keep_data(struct command *command)
 {
     bool is_own = command->data && command->data == command->own;
-    if (command->own_room < room) {
-        uint8_t *own = realloc(command->own, room);
+    if (command->own_room < command->length) {
+        uint8_t *own = realloc(command->own, command->length);
         if (!own) {
             command->refusal = STATUS_INTERNAL_ERROR;
             return false;
         }
         command->own = own;
-        command->own_room = room;
+        command->own_room = command->length;
     }
     if (command->data && !is_own && command->length) {
         memcpy(command->own, command->data, command->length);
@@ -103,14 +103,14 @@ static void settle(struct connection *it, struct command *command)
     }
     if (command->is_held) {
         if (command->data) {
-            keep_data(command, 2 * (size_t)command->length); /* and its partner's data, which is as long where the pair is right */
+            keep_data(command);
         }
     } else if (!partner) {
         be_ready(it, command);
     } else if (!partner->awaits_data) {
         be_ready(it, (command->entry[1] & FUSE_BITS) == FUSED_FIRST ? command : partner);
     } else if (command->data) {
-        keep_data(command, command->length);
+        keep_data(command);
     }
 }
 
@@ -171,7 +171,7 @@ static bool do_single(struct connection *it, struct command *command)
         respond(it, entry, status, 0);
     } else {
         uint8_t *data = reads ? begin_data(it, entry, command->length) : command->data;
-        bool is_done = it->is_pending ? media_poll(it->port, 1, data, command->length, &status) : media_submit(it->port, entry, 1, data, command->length, &status);
+        bool is_done = it->is_pending ? media_poll(it->port, 1, data, command->length, &status) : media_submit(it->port, entry, data, command->length, &status);
         if (!is_done) {
             return false;
         }
@@ -189,11 +189,7 @@ static bool do_single(struct connection *it, struct command *command)
 static bool do_pair(struct connection *it, struct command *first)
 {
     struct command *second = first->partner;
-    size_t front = sent_length(first), back = sent_length(second);
     uint16_t statuses[2];
-    if (!it->is_pending && !first->refusal && !second->refusal && keep_data(first, front + back) && back) {
-        memcpy(first->own + front, second->data, back);
-    }
     if (first->refusal || second->refusal) {
         statuses[0] = first->refusal ? first->refusal : STATUS_FAILED_FUSED;
         statuses[1] = second->refusal ? second->refusal : STATUS_FAILED_FUSED;
@@ -201,8 +197,8 @@ static bool do_pair(struct connection *it, struct command *first)
         uint8_t entries[2 * ZK_ENTRY_BYTES];
         memcpy(entries, first->entry, ZK_ENTRY_BYTES);
         memcpy(entries + ZK_ENTRY_BYTES, second->entry, ZK_ENTRY_BYTES);
-        bool is_done = it->is_pending ? media_poll(it->port, 2, first->own, front + back, statuses)
-                                      : media_submit(it->port, entries, 2, first->own, front + back, statuses);
+        bool is_done = it->is_pending ? media_poll(it->port, 2, NULL, 0, statuses)
+                                      : media_submit_pair(it->port, entries, first->data, sent_length(first), second->data, sent_length(second), statuses);
         if (!is_done) {
             return false;
         }
@@ -343,7 +339,7 @@ void take_more(struct connection *it, const struct pdu *pdu)
     }
     if (pdu->data_length == command->length) {
         command->data = it->in + (pdu->data - it->in);
-    } else if (keep_data(command, command->length)) {
+    } else if (keep_data(command)) {
         memcpy(command->own + command->received, pdu->data, pdu->data_length);
     }
     command->received += pdu->data_length;

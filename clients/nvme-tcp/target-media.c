@@ -83,11 +83,19 @@ static bool ended(int code, const uint8_t *completions, unsigned count, uint16_t
     return code != ZK_PENDING;
 }
 
-bool media_submit(struct zk_port *port, const uint8_t *entries, unsigned count, uint8_t *data, size_t length, uint16_t *statuses)
+bool media_submit(struct zk_port *port, const uint8_t *entry, uint8_t *data, size_t length, uint16_t *status)
+{
+    uint8_t completion[ZK_COMPLETION_BYTES];
+    int code = zk_submit(port, entry, ZK_ENTRY_BYTES, data, length, completion, sizeof completion);
+    return ended(code, completion, 1, status);
+}
+
+bool media_submit_pair(struct zk_port *port, const uint8_t *entries, const uint8_t *compared, size_t compared_length, const uint8_t *written, size_t written_length,
+                       uint16_t *statuses)
 {
     uint8_t completions[2 * ZK_COMPLETION_BYTES];
-    int code = zk_submit(port, entries, count * ZK_ENTRY_BYTES, data, length, completions, count * ZK_COMPLETION_BYTES);
-    return ended(code, completions, count, statuses);
+    int code = zk_submit_pair(port, entries, 2 * ZK_ENTRY_BYTES, compared, compared_length, written, written_length, completions, sizeof completions);
+    return ended(code, completions, 2, statuses);
 }
 
 bool media_poll(struct zk_port *port, unsigned count, uint8_t *data, size_t length, uint16_t *statuses)

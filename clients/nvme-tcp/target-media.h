@@ -43,9 +43,11 @@ void media_give_port(struct zk_port *port);
 /* Whether the opcode is one of an I/O command that the namespace serves. */
 bool media_serves(uint8_t opcode);
 
-/* Begins a command, or a fused pair of two entries, whose data has the length that zk_data_length gives. True once it is done, with a status for each entry; false
-   while it is pending, and then media_poll goes on. */
-bool media_submit(struct zk_port *port, const uint8_t *entries, unsigned count, uint8_t *data, size_t length, uint16_t *statuses);
+/* Begins a command, or a fused pair of two entries with the data of each, which has the length that zk_data_length gives. True once it is done, with a status for
+   each entry; false while it is pending, and then media_poll goes on. */
+bool media_submit(struct zk_port *port, const uint8_t *entry, uint8_t *data, size_t length, uint16_t *status);
+bool media_submit_pair(struct zk_port *port, const uint8_t *entries, const uint8_t *compared, size_t compared_length, const uint8_t *written, size_t written_length,
+                       uint16_t *statuses);
 bool media_poll(struct zk_port *port, unsigned count, uint8_t *data, size_t length, uint16_t *statuses);
 
 /* Writes the record of all that was done to the file, whole or not at all, and audits it. Says on standard output what the audit says, and on standard error why there is

@@ -1,6 +1,7 @@
 -- What a job that is done at once leaves.
-use Rattle.std.proofs.Common.{◌≡◌, ◌⊎◌, inl, inr, ◌∙◌, ℕ, ◌+◌, ◌-◌, ◌<◌, ◌≤◌, List, [], ◌∷◌, ◌++◌, length, take, drop, slice_range, Option, None, Some, unwrap_or, append-nil, refl, sym, ap, subst, arith}
-use Rattle.std.proofs.lemmas.List.{drop-take, length-drop, length-take-le, take-append-drop, take-take, take_all}
+use Rattle.std.proofs.Common.{◌≡◌, ◌⊎◌, inl, inr, ◌∙◌, ℕ, ◌+◌, ◌<◌, ◌≤◌, List, [], ◌∷◌, ◌++◌, length, take, drop, Option, None, Some, unwrap_or, append-nil, refl, sym, ap, subst, arith}
+use Rattle.std.proofs.Math.Seq.{drop-append_seam, take-append_seam}
+use Rattle.std.proofs.lemmas.List.{length-drop, length-take-le, take-append-drop, take_all}
 use Rattle.nvm_record.specs.Step.{Operation}
 use Rattle.nvm_record.specs.declared.status.Statuses.{Statuses}
 use Rattle.nvm_geometry.specs.Boundaries.{unit_number}
@@ -20,7 +21,7 @@ use Rattle.nvm_space.specs.AtOnce.{IsOnlyPartAt, IsWaiting}
 use Rattle.nvm_space.specs.UnderWay.{MayHaveWaited}
 use Rattle.nvm_space.specs.declared.job_done.JobDone.{JobDone}
 use Rattle.nvm_c.specs.Logs.{HasDrawn, LogState, kept_by, with_kept}
-use Rattle.nvm_c.specs.Told.{FitEntries, all_posted, overwritten, read_by}
+use Rattle.nvm_c.specs.Told.{AreTold, FitEntries, all_posted, overwritten, read_by, told_length}
 use Rattle.nvm_c.specs.declared.log.Log.{Log}
 
 -- Nothing is recorded after a number was drawn where nothing was before, and nothing is kept there.
@@ -42,24 +43,17 @@ pub lent_as : (fields : BodyFields) {payload compared lent also : List ℕ} → 
 lent_as fields {payload} {compared} {lent} {also} is is_too =
     ap (λ (bytes : List ℕ). body_lent fields bytes compared) (sym is) ∙ ap (body_lent fields lent) (sym is_too)
 
-payload_lent : (buffer front back : List ℕ) (called sent : ℕ) → called ≤ sent → front ≡ take sent buffer → back ≡ drop called front → back ≡ slice_range buffer called sent
-payload_lent buffer front back called sent le front_is is =
-    let rest = sent - called in
-    let whole : sent ≡ called + rest = omega (arith, le) in
-    is ∙ ap (drop called) (front_is ∙ ap (λ (n : ℕ). take n buffer) whole) ∙ drop-take called rest buffer
+-- the job of data that is lent, or kept
+pub job_lent : (host : ℕ) (fields : BodyFields) {payload compared lent also : List ℕ} → lent ≡ payload → also ≡ compared
+    → (let j : Job = record { host = host; body = body_lent fields payload compared } in j) ≡ (let j : Job = record { host = host; body = body_lent fields lent also } in j)
+job_lent host fields is is_too = ap (λ (body : Body). (let j : Job = record { host = host; body = body } in j)) (lent_as fields is is_too)
 
-compared_lent : (buffer front part : List ℕ) (called sent : ℕ) → called ≤ sent → front ≡ take sent buffer → part ≡ take called front → part ≡ take called buffer
-compared_lent buffer front part called sent le front_is is = is ∙ ap (take called) front_is ∙ take-take called sent buffer le
+-- Two pieces behind each other are cut where the first one ends.
+pub piece_front : (front back : List ℕ) (called : ℕ) → length front ≡ called → front ≡ take called (front ++ back)
+piece_front front back called is = sym (take-append_seam front back) ∙ ap (λ (n : ℕ). take n (front ++ back)) is
 
--- The data that is lent of a buffer is that between two places, and what is compared is that up to the first.
-pub lent_of : (fields : BodyFields) (buffer : List ℕ) (called sent : ℕ) {front part back payload compared : List ℕ} → called ≤ sent → front ≡ take sent buffer
-    → part ≡ take called front → back ≡ drop called front → payload ≡ back → compared ≡ part
-    → body_lent fields (slice_range buffer called sent) (take called buffer) ≡ body_lent fields payload compared
-lent_of fields buffer called sent {front} {part} {back} {payload} {compared} le front_is part_is back_is is is_too =
-    lent_as fields (is ∙ payload_lent buffer front back called sent le front_is back_is) (is_too ∙ compared_lent buffer front part called sent le front_is part_is)
-
-pub back_slice : (buffer : List ℕ) (called : ℕ) → slice_range buffer called (length buffer) ≡ drop called buffer
-back_slice buffer called = take_all (length buffer - called) (drop called buffer) (omega (arith, length-drop called buffer))
+pub piece_back : (front back : List ℕ) (called : ℕ) → length front ≡ called → back ≡ drop called (front ++ back)
+piece_back front back called is = sym (drop-append_seam front back) ∙ ap (λ (n : ℕ). drop n (front ++ back)) is
 
 -- The entries don't show what was read.
 pub fit_alike : (host : ℕ) (body : Body) (statuses : Statuses) (read : Option (List ℕ)) → FitEntries (body_completions host body statuses read) → FitEntries (body_completions host body statuses None)
@@ -71,7 +65,7 @@ pub posted_alike : (host : ℕ) (body : Body) (statuses : Statuses) (read : Opti
 posted_alike host (Single c) statuses read = refl
 posted_alike host (Pair c d) statuses read = refl
 
-no_items : (l : List ℕ) → length l ≡ 0 → l ≡ []
+pub no_items : (l : List ℕ) → length l ≡ 0 → l ≡ []
 no_items [] none = refl
 no_items (x ∷ l) none = absurd (omega (arith, none))
 
@@ -91,38 +85,28 @@ read_over : (read : Option (List ℕ)) (buffer new : List ℕ) → new ≡ unwra
 read_over None buffer new is same = is ∙ over_none buffer
 read_over (Some bytes) buffer new is same = is ∙ over_all bytes buffer (sym (ap length is) ∙ same)
 
--- where there is no room, nothing was read
-nothing_over : (read : Option (List ℕ)) (buffer room new : List ℕ) → length room ≡ 0 → new ≡ unwrap_or read room → length new ≡ length room
-    → buffer ≡ overwritten (unwrap_or read []) buffer
-nothing_over None buffer room new none is same = over_none buffer
-nothing_over (Some bytes) buffer room new none is same =
-    over_none buffer ∙ ap (λ (l : List ℕ). overwritten l buffer) (sym (no_items bytes (sym (ap length is) ∙ same ∙ none)))
-
-no_room : (buffer : List ℕ) (sent : ℕ) → sent ≡ length buffer → length (drop sent buffer) ≡ 0
-no_room buffer sent all = omega (arith, length-drop sent buffer, all)
-
-whole_front : (buffer front room new : List ℕ) (sent : ℕ) → front ≡ take sent buffer → room ≡ drop sent buffer → length new ≡ length room
-    → sent ≡ length buffer → front ++ new ≡ buffer
-whole_front buffer front room new sent front_is room_is same all =
-    let none : new ≡ [] = no_items new (same ∙ ap length room_is ∙ no_room buffer sent all) in
-    ap (λ (l : List ℕ). front ++ l) none ∙ append-nil front ∙ front_is ∙ take_all sent buffer (omega (arith, all))
-
 read_told : (told : Completions) → read_by told ≡ unwrap_or (data_in told) []
 read_told (One c) = refl
 read_told (Two c d) = refl
 
--- The buffer after a job that was done at once.
-pub buffer_told : (told : Completions) (buffer front room new : List ℕ) (sent : ℕ) → front ≡ take sent buffer → room ≡ drop sent buffer
-    → new ≡ unwrap_or (data_in told) room → length new ≡ length room → (sent ≡ length buffer) ⊎ (sent ≡ 0) → front ++ new ≡ overwritten (read_by told) buffer
-buffer_told told buffer front room new sent front_is room_is is same (inl all) =
-    rw (read_told told)
-    (whole_front buffer front room new sent front_is room_is same all
-    ∙ nothing_over (data_in told) buffer room new (ap length room_is ∙ no_room buffer sent all) is same)
-buffer_told told buffer front room new sent front_is room_is is same (inr none) =
-    let no_front : front ≡ [] = front_is ∙ ap (λ (n : ℕ). take n buffer) none in
-    let all_room : room ≡ buffer = room_is ∙ ap (λ (n : ℕ). drop n buffer) none in
-    rw (read_told told)
-    (ap (λ (l : List ℕ). l ++ new) no_front ∙ read_over (data_in told) buffer new (is ∙ ap (unwrap_or (data_in told)) all_room) (same ∙ ap length all_room))
+-- The buffer after a job that was done at once: there is no room in it, or nothing else.
+pub buffer_told : (told : Completions) (front room new : List ℕ) → (room ≡ []) ⊎ (front ≡ []) → new ≡ unwrap_or (data_in told) room → length new ≡ length room
+    → front ++ new ≡ overwritten (read_by told) (front ++ room)
+buffer_told told front room new (inl none) is same =
+    let empty : new ≡ [] = no_items new (same ∙ ap length none) in
+    let unread : read_by told ≡ [] = read_told told ∙ sym (is ∙ ap (unwrap_or (data_in told)) none) ∙ empty in
+    ap (λ (l : List ℕ). front ++ l) (empty ∙ sym none) ∙ over_none (front ++ room) ∙ ap (λ (l : List ℕ). overwritten l (front ++ room)) (sym unread)
+buffer_told told front room new (inr none) is same =
+    ap (λ (l : List ℕ). l ++ new) none ∙ read_over (data_in told) room new is same ∙ ap (λ (l : List ℕ). overwritten l room) (sym (read_told told))
+    ∙ ap (λ (l : List ℕ). overwritten (read_by told) (l ++ room)) (sym none)
+
+-- What is told of a job changes nothing before the buffer, if something is there: then it is a pair, which reads nothing.
+pub told_behind : (told : Completions) (sent : List ℕ) {old new posted posted' : List ℕ} → (sent ≡ []) ⊎ (told_length told ≡ 32) → AreTold told old new posted posted'
+    → AreTold told (sent ++ old) (sent ++ new) posted posted'
+told_behind told sent {old} {new} {posted} {posted'} (inl none) are = subst (λ (l : List ℕ). AreTold told (l ++ old) (l ++ new) posted posted') (sym none) are
+told_behind (One c) sent (inr two) are = absurd (omega (arith, two))
+told_behind (Two c d) sent {old} (inr two) are =
+    record { entries = are.entries; read = ap (λ (l : List ℕ). sent ++ l) (are.read ∙ sym (over_none old)) ∙ over_none (sent ++ old) }
 
 front_over : (read : Option (List ℕ)) (buffer front new : List ℕ) (room : ℕ) → front ≡ take room buffer → room ≤ length buffer
     → new ≡ unwrap_or read front → length new ≡ length front → new ++ drop room buffer ≡ overwritten (unwrap_or read []) buffer
@@ -138,14 +122,6 @@ pub front_told : (told : Completions) (buffer front new : List ℕ) (room : ℕ)
     → new ≡ unwrap_or (data_in told) front → length new ≡ length front → new ++ drop room buffer ≡ overwritten (read_by told) buffer
 front_told told buffer front new room front_is le is same =
     rw (read_told told) (front_over (data_in told) buffer front new room front_is le is same)
-
--- The job of data that is kept is that of the data that was lent.
-pub job_kept : (host : ℕ) (fields : BodyFields) (buffer : List ℕ) (called sent : ℕ) {front part back payload compared : List ℕ} → called ≤ sent → front ≡ take sent buffer
-    → part ≡ take called front → back ≡ drop called front → payload ≡ back → compared ≡ part
-    → (let j : Job = record { host = host; body = body_lent fields (slice_range buffer called sent) (take called buffer) } in j)
-    ≡ (let j : Job = record { host = host; body = body_lent fields payload compared } in j)
-job_kept host fields buffer called sent le front_is part_is back_is is is_too =
-    ap (λ (body : Body). (let j : Job = record { host = host; body = body } in j)) (lent_of fields buffer called sent le front_is part_is back_is is is_too)
 
 -- A job has one only unit.
 pub waits_for_it : (ns : Namespace) (job : Job) (region : ℕ) (part : Operation) (start now : List PassView) → IsOnlyPartAt ns job region part → (waiting : IsWaiting ns job start now)

@@ -8,8 +8,9 @@ ghost use Rattle.nvm_record.specs.Op.{carries_ranges};
 ghost use Rattle.nvm_plan.specs.OnlyPart.{command_lent};
 ghost use Rattle.nvm_plan.specs.Fits.{FitsNamespace};
 ghost use Rattle.nvm_c.specs.Asked as spec;
-ghost use Rattle.nvm_c.specs.Asked.{IsAsked, IsAskedAlone, IsAskedTogether};
+ghost use Rattle.nvm_c.specs.Asked.{IsAsked, IsAskedAlone};
 ghost use Rattle.nvm_c.specs.Refused.{IsRefusal};
+ghost use Rattle.nvm_c.specs.Told.{posted_length};
 
 use crate::code::Code;
 use nvm_geometry::LargeGeometry;
@@ -20,7 +21,7 @@ use nvm_record::{
 };
 use std::alloc::Global;
 
-/// The job of one entry, or of two that are a fused pair.
+/// The job of one entry.
 pub(crate) fn asked_job(
     alloc: Global,
     geometry: &LargeGeometry,
@@ -32,16 +33,46 @@ pub(crate) fn asked_job(
     ensures fits { IfOk result (λ job. FitsNamespace geometry.now job) }
     ensures refused { IfErr result IsRefusal }
 {
-    let size = geometry.block_size();
-    let body = match entries.len() {
-        64 => Body::Single(asked_alone(alloc, size, entries, buffer)?),
-        128 => {
-            let (first, second) = asked_together(alloc, size, entries, buffer)?;
-            Body::Pair(first, second)
-        }
-        _ => return Err(Code::BadLength),
+    if entries.len() != 64 {
+        return Err(Code::BadLength);
+    }
+    let command = asked_alone(alloc, geometry.block_size(), entries, buffer)?;
+    let job = Job {
+        host,
+        body: Body::Single(command),
     };
-    let job = Job { host, body };
+    if !fits(geometry, &job) {
+        return Err(Code::NoPair);
+    }
+    Ok(job)
+}
+
+/// The job of two entries, with the data of the first and that of the second.
+pub(crate) fn asked_pair(
+    alloc: Global,
+    geometry: &LargeGeometry,
+    host: u16,
+    entries: &[u8],
+    compared: &[u8],
+    written: &[u8],
+) -> Result<Job, Code>
+    requires { length entries.now ≡ 128 }
+    ensures asked { IfOk result (λ job. IsAsked geometry.now.block_size host entries.now (compared.now ++ written.now) job) }
+    ensures two { IfOk result (λ job. posted_length job.body ≡ 32) }
+    ensures fits { IfOk result (λ job. FitsNamespace geometry.now job) }
+    ensures refused { IfErr result IsRefusal }
+{
+    let size = geometry.block_size();
+    let (first, second) = entries.split_at(64);
+    if compared.len() != called(size, first) {
+        return Err(Code::BadLength);
+    }
+    let compare = command_of(alloc, size, first, compared)?;
+    let write = command_of(alloc, size, second, written)?;
+    let job = Job {
+        host,
+        body: Body::Pair(compare, write),
+    };
     if !fits(geometry, &job) {
         return Err(Code::NoPair);
     }
@@ -110,28 +141,6 @@ pub(crate) fn room(op: Op, nlb: u16, size: BlockSize) -> usize
     } else {
         0
     }
-}
-
-/// The commands of two entries, whose data stands in the buffer in their order.
-fn asked_together(
-    alloc: Global,
-    size: BlockSize,
-    entries: &[u8],
-    buffer: &[u8],
-) -> Result<(Command, Command), Code>
-    requires { length entries.now ≡ 128 }
-    ensures asked { IfOk result (λ cs. IsAskedTogether size entries.now buffer.now cs.0 cs.1) }
-    ensures refused { IfErr result IsRefusal }
-{
-    let (first, second) = entries.split_at(64);
-    let called = called(size, first);
-    if buffer.len() < called {
-        return Err(Code::BadLength);
-    }
-    let (data, rest) = buffer.split_at(called);
-    let first = command_of(alloc, size, first, data)?;
-    let second = command_of(alloc, size, second, rest)?;
-    Ok((first, second))
 }
 
 /// How many bytes of data an entry calls for.

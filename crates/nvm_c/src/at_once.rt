@@ -1,5 +1,5 @@
-//! Jobs of one part, a command by itself or a fused pair that lies in one unit, which are tried as they are submitted.
-ghost use Rattle.std.specs.Prelude.{◌≡◌, ◌⊎◌, ◌+◌, ◌*◌, ◌≤◌, ℕ, List, IsTrue, None, false, length, slice_range, take};
+//! Jobs of one part, a command by itself or a fused pair that lies in one unit, which are tried as they are submitted. A pair's data comes in two pieces.
+ghost use Rattle.std.specs.Prelude.{◌≡◌, ◌⊎◌, ◌++◌, ◌+◌, ◌*◌, ℕ, List, [], IsTrue, IfNone, IfSome, None, false, length};
 ghost use Rattle.std.specs.Bool.{OnTrue};
 ghost use Rattle.nvm_record.specs.Entry.{data_length};
 ghost use Rattle.nvm_record.specs.Op.{carries_ranges};
@@ -7,10 +7,9 @@ ghost use Rattle.nvm_store.specs.Answer.{IsRoomFor};
 ghost use Rattle.nvm_store.specs.Place.{IsCovered};
 ghost use Rattle.nvm_store.specs.declared.place.Place.{Place as UnitPlace};
 ghost use Rattle.nvm_plan.specs.Completions.{completions_of};
-ghost use Rattle.nvm_plan.specs.Profile.{IsFusedPair};
 ghost use Rattle.nvm_plan.specs.Fits.{IsWholeBody};
 ghost use Rattle.nvm_plan.specs.LentPart.{part_operation_of};
-ghost use Rattle.nvm_plan.specs.OnlyPart.{body_lent, command_lent};
+ghost use Rattle.nvm_plan.specs.OnlyPart.{body_lent};
 ghost use Rattle.nvm_plan.specs.Shape.{IsForEach};
 ghost use Rattle.nvm_plan.specs.UnitPlace.{IsUnitPlace};
 ghost use Rattle.nvm_unit.specs.Ends.{views_of};
@@ -34,7 +33,7 @@ use crate::quiet::Quiet;
 use crate::telling::tell;
 use crate::waiting::WaitingJob;
 use nvm_plan::{BodyFields, Completions, LentPart};
-use nvm_record::{BlockSize, Completion, EntryFields, Fuse, Op, PayloadRef, Status, Statuses};
+use nvm_record::{BlockSize, Completion, EntryFields, PayloadRef, Status, Statuses};
 use nvm_space::{Port, Space};
 use nvm_unit::Count;
 use std::alloc::Global;
@@ -68,98 +67,46 @@ impl Engine {
         }
         // A Read's buffer is room, and any other's is data.
         let sent = if reads(fields.op) { 0 } else { data.len() };
-        self.submit_fields(
-            alloc,
-            host,
-            entry,
-            BodyFields::Single(fields),
-            0,
-            sent,
-            data,
-            posted,
-        )
+        let (payload, room) = data.split_at_mut(sent);
+        let body = BodyFields::Single(fields);
+        match self.submit_fields(alloc, host, body, &[], payload, room, posted) {
+            Some(code) => code,
+            None => self.submit_job(alloc, host, entry, data, posted),
+        }
     }
 
-    /// Submits a fused pair of a Compare and a Write.
-    #[inline(never)]
-    pub(crate) fn submit_pair(
-        &mut self,
-        alloc: Global,
-        host: u16,
-        entries: &[u8],
-        data: &mut [u8],
-        posted: &mut [u8],
-    ) -> Code
-        requires sound { IsSound self.old }
-        requires idle { self.old.pending ≡ None }
-        requires unrecorded { self.old.log ≡ None }
-        requires unlisted { (space_of self.old).lists ≡ false }
-        requires host { host ≡ self.old.port.number + 1 }
-        requires two { length entries.now ≡ 128 }
-        ensures sound { IsSound self.new }
-        ensures submits { Submits result self.old self.new entries.now
-            (record { bytes = data.old; posted = posted.old }) (record { bytes = data.new; posted = posted.new }) }
-    {
-        let (first, second) = entries.split_at(64);
-        let compare = plain_fields(first);
-        let write = plain_fields(second);
-        if !are_fused(&compare, &write) {
-            return self.submit_job(alloc, host, entries, data, posted);
-        }
-        let size = self.space.geometry().block_size();
-        let called = compare.op.data_length(compare.nlb, compare.nr, size);
-        if data.len() < called || posted.len() != 32 {
-            return Code::BadLength;
-        }
-        let sent = data.len();
-        if sent - called != write.op.data_length(write.nlb, write.nr, size) {
-            return Code::BadLength;
-        }
-        self.submit_fields(
-            alloc,
-            host,
-            entries,
-            BodyFields::Pair(compare, write),
-            called,
-            sent,
-            data,
-            posted,
-        )
-    }
-
-    /// Does the job of entries with these fields, where it has one part. It waits where the part's region is held; a job of several parts is begun.
-    /// The data of a pair's Compare is in the buffer up to place `called`, and that of a command by itself, or of a pair's Write, from there up to
-    /// place `sent`. What is behind that is room for what a Read reads.
+    /// Does the job of entries with these fields, where it has one part. It waits where the part's region is held. `None` where the job has several parts:
+    /// then nothing was done. `compared` is the data of a pair's Compare, `payload` that of a command by itself, or of a pair's Write, and
+    /// `room` is for what a Read reads.
     #[inline(always)]
-    fn submit_fields(
+    pub(crate) fn submit_fields(
         &mut self,
         alloc: Global,
         host: u16,
-        entries: &[u8],
         fields: BodyFields,
-        called: usize,
-        sent: usize,
-        data: &mut [u8],
+        compared: &[u8],
+        payload: &[u8],
+        room: &mut [u8],
         posted: &mut [u8],
-    ) -> Code
+    ) -> Option<Code>
         requires sound { IsSound self.old }
         requires idle { self.old.pending ≡ None }
         requires unrecorded { self.old.log ≡ None }
         requires unlisted { (space_of self.old).lists ≡ false }
         requires host { host ≡ self.old.port.number + 1 }
-        requires called { called ≤ sent }
-        requires sent { (sent ≡ length data.old) ⊎ (sent ≡ 0) }
-        requires whole { IsWholeBody (namespace_of self.old).block_size (body_lent fields (slice_range data.old called sent) (take called data.old)) }
-        requires asked { IsAsked (namespace_of self.old).block_size (self.old.port.number + 1) entries.now data.old
-            (record { host = host; body = body_lent fields (slice_range data.old called sent) (take called data.old) }) }
-        requires room { length posted.old ≡ posted_length (body_lent fields (slice_range data.old called sent) (take called data.old)) }
+        requires apart { (room.old ≡ []) ⊎ (compared.now ++ payload.now ≡ []) }
+        requires whole { IsWholeBody (namespace_of self.old).block_size (body_lent fields payload.now compared.now) }
+        requires posted { length posted.old ≡ posted_length (body_lent fields payload.now compared.now) }
         ensures sound { IsSound self.new }
-        ensures submits { Submits result self.old self.new entries.now
-            (record { bytes = data.old; posted = posted.old }) (record { bytes = data.new; posted = posted.new }) }
+        ensures none { IfNone result ((self.new ≡ self.old) × (room.new ≡ room.old) × (posted.new ≡ posted.old)) }
+        ensures submits { IfSome result (λ code. (entries : List ℕ)
+            → IsAsked (namespace_of self.old).block_size (self.old.port.number + 1) entries ((compared.now ++ payload.now) ++ room.old)
+            (record { host = host; body = body_lent fields payload.now compared.now })
+            → Submits code self.old self.new entries
+            (record { bytes = (compared.now ++ payload.now) ++ room.old; posted = posted.old })
+            (record { bytes = (compared.now ++ payload.now) ++ room.new; posted = posted.new })) }
     {
         let space = &*self.space;
-        let (front, room) = data.split_at_mut(sent);
-        let (compared, payload) = front.split_at(called);
         let only = space.only_part(
             fields,
             PayloadRef::of(payload),
@@ -167,13 +114,13 @@ impl Engine {
             room,
         );
         let Some((region, part)) = only else {
-            return self.submit_job(alloc, host, entries, data, posted);
+            return None;
         };
         if !self.spare.make_room(payload.len(), compared.len()) {
-            return Code::NoMemory;
+            return Some(Code::NoMemory);
         }
         let Ok(number) = draw(&mut self.number, &mut self.log) else {
-            return Code::NoMemory;
+            return Some(Code::NoMemory);
         };
         if done_at_once(
             alloc,
@@ -187,7 +134,7 @@ impl Engine {
             room,
             posted,
         ) {
-            return Code::Done;
+            return Some(Code::Done);
         }
         let data = self.spare.keep(alloc, payload, compared);
         self.pending = Some(Pending::Waiting(WaitingJob {
@@ -196,7 +143,7 @@ impl Engine {
             fields,
             data,
         }));
-        Code::Pending
+        Some(Code::Pending)
     }
 }
 
@@ -238,17 +185,6 @@ pub(crate) fn done_at_once(
         }
         None => false,
     }
-}
-
-/// Whether they are a Compare and a Write that are the first and the second of a fused pair.
-fn are_fused(compare: &EntryFields, write: &EntryFields) -> bool
-    ensures plain { OnTrue result ((carries_ranges compare.now.op ≡ false) × (carries_ranges write.now.op ≡ false)) }
-    ensures fused { OnTrue result ((compared written : List ℕ) → IsFusedPair (command_lent compare.now compared) (command_lent write.now written)) }
-{
-    compare.op == Op::Compare
-        && write.op == Op::Write
-        && compare.fuse == Fuse::First
-        && write.fuse == Fuse::Second
 }
 
 /// Whether the buffer is as long as the command calls for: as what a Read reads, or the data of any other.

@@ -1,5 +1,5 @@
 //! A port of a namespace as C works with it: a job is begun and gone on with, and C is told when it is done.
-ghost use Rattle.std.specs.Prelude.{◌≡◌, ◌+◌, ◌%◌, ◌^◌, ◌<◌, ◌≤◌, ℕ, Bool, List, None, IsSome, IfSome, length};
+ghost use Rattle.std.specs.Prelude.{◌≡◌, ◌⊎◌, ◌++◌, ◌+◌, ◌%◌, ◌^◌, ◌<◌, ◌≤◌, ℕ, Bool, List, [], None, IsSome, IfSome, length};
 ghost use Rattle.std.specs.Arc.{arc_value};
 ghost use Rattle.nvm_geometry.specs.Namespace.{Namespace};
 ghost use Rattle.nvm_plan.specs.Fits.{FitsNamespace};
@@ -76,18 +76,16 @@ impl Engine {
             None => {}
         }
         let host = self.port.number() + 1;
-        if self.log.is_none() && self.space.recorded().is_none() {
-            if is_plain(entries) {
-                return self.submit_command(alloc, host, entries, data, posted);
-            }
-            if entries.len() == 128 {
-                return self.submit_pair(alloc, host, entries, data, posted);
-            }
+        if entries.len() == 128 {
+            return self.submit_buffer(alloc, entries, data, posted);
+        }
+        if self.log.is_none() && self.space.recorded().is_none() && is_plain(entries) {
+            return self.submit_command(alloc, host, entries, data, posted);
         }
         self.submit_job(alloc, host, entries, data, posted)
     }
 
-    /// Makes the job that the entries ask for, and begins it.
+    /// Makes the job that one entry asks for, and begins it.
     // Not inlined, since a command that is done at once would clear the room that this takes.
     #[inline(never)]
     pub(crate) fn submit_job(
@@ -115,8 +113,8 @@ impl Engine {
     }
 
     /// Begins a job that entries ask for, and goes on with it. The job is taken if it is kept or pending then. Else it stays where it is
-    /// held, so that it isn't moved.
-    fn begin(
+    /// held, so that it isn't moved. A pair's data needn't be there.
+    pub(crate) fn begin(
         &mut self,
         alloc: Global,
         held: &mut Option<Job>,
@@ -128,10 +126,10 @@ impl Engine {
         requires held { IsSome held.old }
         requires fits { IfSome held.old (λ job. FitsNamespace (namespace_of self.old) job) }
         ensures sound { IsSound self.new }
-        ensures submits { IfSome held.old (λ job. (entries : List ℕ)
-            → IsAsked (namespace_of self.old).block_size (self.old.port.number + 1) entries data.old job
+        ensures submits { IfSome held.old (λ job. (entries sent : List ℕ) → (sent ≡ []) ⊎ (posted_length job.body ≡ 32)
+            → IsAsked (namespace_of self.old).block_size (self.old.port.number + 1) entries (sent ++ data.old) job
             → Submits result self.old self.new entries
-            (record { bytes = data.old; posted = posted.old }) (record { bytes = data.new; posted = posted.new })) }
+            (record { bytes = sent ++ data.old; posted = posted.old }) (record { bytes = sent ++ data.new; posted = posted.new })) }
     {
         told_statuses_fit_their_entries();
         let Some(job) = &*held else {

@@ -1,5 +1,5 @@
 //! What C calls. Each export has the name and the number that C sees, and hands the call on; those on one port, to `port_calls.rt`.
-ghost use Rattle.std.specs.Prelude.{◌≡◌};
+ghost use Rattle.std.specs.Prelude.{◌≡◌, ◌++◌};
 ghost use Rattle.nvm_c.specs.AuditCodes.{audit_number};
 ghost use Rattle.nvm_c.specs.Audited.{IsAudited};
 ghost use Rattle.nvm_record.specs.BlockSize.{IsBlockSize};
@@ -26,7 +26,7 @@ use crate::carried::carried;
 use crate::handle::Handle;
 use crate::identify::identify_numbers;
 use crate::opening::{Numbers, open_ports};
-use crate::port_calls::{closed, identified, polled, read_now, submitted};
+use crate::port_calls::{closed, identified, polled, read_now, submitted, submitted_in_pieces};
 use crate::reading::ReadStatus;
 use crate::recording::{record_part, record_ports};
 use crate::refuting::refuted;
@@ -35,7 +35,7 @@ use nvm_trace::Judging;
 use std::alloc::Global;
 
 /// The version of the header that goes with this library.
-const VERSION: u32 = 6;
+const VERSION: u32 = 7;
 
 /// The version of the header that goes with this library.
 #[unsafe(no_mangle)]
@@ -82,6 +82,23 @@ pub extern "C" fn zk_submit(
         (record { bytes = data.old; posted = completions.old }) (record { bytes = data.new; posted = completions.new }) }
 {
     submitted(alloc, port, entries, data, completions).number()
+}
+
+/// As `zk_submit` with a fused pair, whose data comes in two pieces: that of the Compare, and that of the Write.
+#[unsafe(no_mangle)]
+pub extern "C" fn zk_submit_pair(
+    alloc: Global,
+    port: &mut Handle,
+    entries: &[u8],
+    compared: &[u8],
+    written: &[u8],
+    completions: &mut [u8],
+) -> i32
+    ensures { (code : Answer) × (result ≡ number_of code)
+        × SubmitsAt code port.old.held.engine port.new.held.engine entries.now
+        (record { bytes = compared.now ++ written.now; posted = completions.old }) (record { bytes = compared.now ++ written.now; posted = completions.new }) }
+{
+    submitted_in_pieces(alloc, port, entries, compared, written, completions).number()
 }
 
 /// Goes on with the job that is pending in the port.

@@ -24,6 +24,7 @@ mod line;
 mod log;
 mod opening;
 mod order_witnessing;
+mod pairs;
 mod port_calls;
 mod quiet;
 mod reading;

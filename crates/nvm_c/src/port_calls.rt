@@ -1,4 +1,5 @@
 //! The calls on one port. Each takes the engine out of the handle, calls it, and puts it back, but for the one that closes. Where a handle has none, the port isn't open.
+ghost use Rattle.std.specs.Prelude.{◌++◌};
 ghost use Rattle.nvm_c.specs.Exports.{Closes, PollsAt, SubmitsAt};
 ghost use Rattle.nvm_c.specs.Identify.{IdentifiesAt};
 ghost use Rattle.nvm_c.specs.ReadNow.{ReadsAt};
@@ -37,6 +38,26 @@ pub(crate) fn submitted(
         return Code::NotOpen;
     };
     let code = engine.submit(alloc, entries, data, completions);
+    port.put(engine);
+    code
+}
+
+/// As `zk_submit_pair`, with the code in place of its number.
+pub(crate) fn submitted_in_pieces(
+    alloc: Global,
+    port: &mut Handle,
+    entries: &[u8],
+    compared: &[u8],
+    written: &[u8],
+    completions: &mut [u8],
+) -> Code
+    ensures { SubmitsAt result port.old.held.engine port.new.held.engine entries.now
+        (record { bytes = compared.now ++ written.now; posted = completions.old }) (record { bytes = compared.now ++ written.now; posted = completions.new }) }
+{
+    let Some(mut engine) = port.take(alloc) else {
+        return Code::NotOpen;
+    };
+    let code = engine.submit_pieces(alloc, entries, compared, written, completions);
     port.put(engine);
     code
 }

@@ -1,4 +1,4 @@
-use Rattle.std.proofs.Common.{◌≡◌, ◌∙◌, ◌++◌, ℕ, ◌<◌, List, inl, refl, sym, ap, subst, slice_range, take}
+use Rattle.std.proofs.Common.{◌≡◌, ◌++◌, ℕ, ◌<◌, List, inl, refl, sym, ap, subst}
 use Rattle.nvm_record.specs.PayloadRef.{lent_bytes}
 use Rattle.nvm_plan.specs.Fits.{FitsNamespace}
 use Rattle.nvm_plan.specs.LentPart.{part_operation_of}
@@ -11,18 +11,12 @@ use Rattle.nvm_space.specs.Trace.{DoesJob}
 use Rattle.nvm_unit.specs.Ends.{views_of}
 use Rattle.nvm_c.specs.Engines.{namespace_of, seen_by}
 use Rattle.nvm_c.specs.Logs.{kept_by}
-use Rattle.nvm_c.specs.Submitted.{Buffers, Submits}
+use Rattle.nvm_c.specs.Submitted.{Buffers}
 use Rattle.nvm_c.specs.declared.code.Code.TheVariants.{Done}
 use Rattle.nvm_c.specs.declared.engine.Pending.TheVariants.{Waiting}
-use Rattle.nvm_c.proofs.AtOnce.{body_fits, buffer_told, job_kept, lent_of, none_drawn, none_kept}
+use Rattle.nvm_c.proofs.AtOnce.{body_fits, buffer_told, job_lent, lent_as, none_drawn, none_kept}
 use Rattle.nvm_c.proofs.Steps.{submits_of}
 use Rattle.nvm_c.proofs.engine.Engine.submit_fields.Goals as goal
-
-pub returns-in_default-clause-submits : goal.returns-in_default-clause-submits
-returns-in_default-clause-submits c =
-    let new : Buffers = record { bytes = c.submit_job.new.data; posted = c.submit_job.new.posted } in
-    subst (λ (l : List ℕ). Submits c.submit_job.result c.args.self.now c.submit_job.new.self c.args.entries.now
-    (let old : Buffers = record { bytes = l; posted = c.args.posted.now } in old) new) (sym c.split_at_mut-front.ensures.value) c.submit_job.ensures.submits
 
 pub done_at_once-requires-clause-only : goal.done_at_once-requires-clause-only
 done_at_once-requires-clause-only c =
@@ -30,18 +24,16 @@ done_at_once-requires-clause-only c =
     (lent_bytes c.of.result, lent_bytes c.of-2.result, c.in-Some.ensures.part job refl)
 
 pub returns-then-done_at_once-clause-submits : goal.returns-then-done_at_once-clause-submits
-returns-then-done_at_once-clause-submits c =
+returns-then-done_at_once-clause-submits c = λ entries asked.
     let e = c.args.self.now in
-    let bytes : List ℕ = slice_range c.args.data.now c.args.called c.args.sent in
-    let also : List ℕ = take c.args.called c.args.data.now in
+    let bytes : List ℕ = c.args.payload.now in
+    let also : List ℕ = c.args.compared.now in
     let job : Job = record { host = c.args.host; body = body_lent c.args.fields bytes also } in
-    let same = lent_of c.args.fields c.args.data.now c.args.called c.args.sent c.requires.called c.split_at_mut-front.ensures.front c.split_at.ensures.front c.split_at.ensures.back
-    c.of.ensures c.of-2.ensures in
-    let did = c.if-done_at_once.ensures.goes bytes also (seen_by e) (c.in-Some.ensures.part job same) (inl refl) in
+    let did = c.if-done_at_once.ensures.goes bytes also (seen_by e) (c.in-Some.ensures.part job (lent_as c.args.fields c.of.ensures c.of-2.ensures)) (inl refl) in
     let after = none_drawn e.log (kept_by c.draw.new.log) e.number c.draw.new.next c.in-Ok.number c.requires.unrecorded c.in-Ok.ensures.drawn in
-    submits_of Done e _ c.args.entries.now _ _ c.requires.idle (record {
+    submits_of Done e _ entries _ _ c.requires.idle (record {
       job = job;
-      asked = c.requires.asked;
+      asked = asked;
       number = c.in-Ok.number;
       log = kept_by c.draw.new.log;
       drawn = c.in-Ok.ensures.drawn;
@@ -50,8 +42,7 @@ returns-then-done_at_once-clause-submits c =
         does = subst (λ (s : SpaceName). DoesJob s.namespace s.lists c.in-Ok.number job (seen_by e) (views_of c.done_at_once.new.port.passes) did.0) c.deref-space.ensures did.1;
         buffers = record {
           entries = did.2;
-          read = buffer_told did.0.completions c.args.data.now c.split_at_mut-front.result.0.now c.split_at_mut-front.result.1.now c.done_at_once.new.room c.args.sent
-              c.split_at_mut-front.ensures.front c.split_at_mut-front.ensures.back did.3 c.done_at_once.auto.room c.requires.sent;
+          read = buffer_told did.0.completions (also ++ bytes) c.args.room.now c.done_at_once.new.room c.requires.apart did.3 c.done_at_once.auto.room;
         };
         idle = c.requires.idle;
         kept = none_kept (kept_by c.draw.new.log) c.in-Ok.number job did.0 after;
@@ -62,15 +53,12 @@ returns-then-done_at_once-clause-submits c =
 pub returns-clause-sound : goal.returns-clause-sound
 returns-clause-sound c =
     let e = c.args.self.now in
-    let bytes : List ℕ = slice_range c.args.data.now c.args.called c.args.sent in
-    let also : List ℕ = take c.args.called c.args.data.now in
+    let bytes : List ℕ = c.args.payload.now in
+    let also : List ℕ = c.args.compared.now in
     let job : Job = record { host = c.args.host; body = body_lent c.args.fields bytes also } in
-    let same = lent_of c.args.fields c.args.data.now c.args.called c.args.sent c.requires.called c.split_at_mut-front.ensures.front c.split_at.ensures.front c.split_at.ensures.back
-    c.of.ensures c.of-2.ensures in
-    let only = c.in-Some.ensures.part job same in
+    let only = c.in-Some.ensures.part job (lent_as c.args.fields c.of.ensures c.of-2.ensures) in
     let waited = (c.if-done_at_once.ensures.goes bytes also (seen_by e) only (inl refl)).0 in
-    let is = job_kept c.args.host c.args.fields c.args.data.now c.args.called c.args.sent c.requires.called c.split_at_mut-front.ensures.front c.split_at.ensures.front c.split_at.ensures.back
-    c.keep-data.ensures.payload c.keep-data.ensures.compared in
+    let is = job_lent c.args.host c.args.fields c.keep-data.ensures.payload c.keep-data.ensures.compared in
     record {
       of = subst (λ (s : SpaceName). IsPortOf s c.done_at_once.new.port) c.deref-space.ensures c.done_at_once.ensures.of;
       few = subst (λ (n : ℕ). n < 64) (sym c.done_at_once.ensures.number) c.requires.sound.few;
@@ -91,23 +79,18 @@ returns-clause-sound c =
     }
 
 pub returns-clause-submits : goal.returns-clause-submits
-returns-clause-submits c =
+returns-clause-submits c = λ entries asked.
     let e = c.args.self.now in
-    let bytes : List ℕ = slice_range c.args.data.now c.args.called c.args.sent in
-    let also : List ℕ = take c.args.called c.args.data.now in
+    let bytes : List ℕ = c.args.payload.now in
+    let also : List ℕ = c.args.compared.now in
     let job : Job = record { host = c.args.host; body = body_lent c.args.fields bytes also } in
-    let same = lent_of c.args.fields c.args.data.now c.args.called c.args.sent c.requires.called c.split_at_mut-front.ensures.front c.split_at.ensures.front c.split_at.ensures.back
-    c.of.ensures c.of-2.ensures in
-    let only = c.in-Some.ensures.part job same in
+    let only = c.in-Some.ensures.part job (lent_as c.args.fields c.of.ensures c.of-2.ensures) in
     let goes = c.if-done_at_once.ensures.goes bytes also (seen_by e) only (inl refl) in
-    let is = job_kept c.args.host c.args.fields c.args.data.now c.args.called c.args.sent c.requires.called c.split_at_mut-front.ensures.front c.split_at.ensures.front c.split_at.ensures.back
-    c.keep-data.ensures.payload c.keep-data.ensures.compared in
-    let still : c.split_at_mut-front.result.0.now ++ c.done_at_once.new.room ≡ c.args.data.now =
-    ap (λ (b : Buffers). c.split_at_mut-front.result.0.now ++ b.bytes) goes.1 ∙ sym c.split_at_mut-front.ensures.value in (
+    let is = job_lent c.args.host c.args.fields c.keep-data.ensures.payload c.keep-data.ensures.compared in (
       c.requires.idle,
       record {
         job = job;
-        asked = c.requires.asked;
+        asked = asked;
         number = c.in-Ok.number;
         log = kept_by c.draw.new.log;
         drawn = c.in-Ok.ensures.drawn;
@@ -123,8 +106,7 @@ returns-clause-submits c =
                 (record { region = c.in-Some.region; part = part_operation_of c.in-Some.part; only = only; waited = goes.0 })),
           );
           log_kept = refl;
-          buffers = ap (λ (l : List ℕ). (let b : Buffers = record { bytes = l; posted = c.done_at_once.new.posted } in b)) still
-              ∙ ap (λ (b : Buffers). (let b' : Buffers = record { bytes = c.args.data.now; posted = b.posted } in b')) goes.1;
+          buffers = ap (λ (b : Buffers). (let b' : Buffers = record { bytes = (also ++ bytes) ++ b.bytes; posted = b.posted } in b')) goes.1;
         };
         space = refl;
       },
