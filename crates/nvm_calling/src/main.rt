@@ -1,6 +1,6 @@
 //! Callers of the libraries, one module a library: what a maker writes who links it. The page `CALLING.md` of each library
-//! shows its module here, to the byte. The program calls each caller once, by a trace that standard input has as text, and prints
-//! what it is answered.
+//! shows its module here, to the byte. The program calls each caller once, by a trace that standard input has as text, and what else
+//! no program calls, and prints what it is answered.
 #![tactic(auto)]
 
 pub mod audit;
