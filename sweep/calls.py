@@ -3,8 +3,8 @@
 Beside the source of such a program stand `stdin`, its rows, and `stdout`, a line for each. A line that begins with `#` begins a group
 that stands by itself, and each group is a run here.
 
-Where a growth is refused, either the program ends, since the memory was for the row's own words or text: then it says so, and the rows before
-are answered as ever. Or the call says that it was refused, and the program goes on. Then the call must have left what it
+Where a growth is refused, the program ends, if the memory was for the row itself: the rows before are answered as ever. Or it was for the row's own words,
+and the row is answered `unread`. Or the call says that it was refused. Then the program goes on, and a row that wasn't read must have left nothing, and a call what it
 says: the rows behind it must be answered as the program answers them where other rows stand in the place of this one, those of `left_by`."""
 
 import os
@@ -16,15 +16,17 @@ CRATES = os.path.join(os.path.dirname(os.path.dirname(os.path.realpath(__file__)
 PROGRAM = os.path.join(CRATES, "nvm_rows", "out", "nvm_rows")
 # How a row ended for want of memory, in a word.
 BY_ROW, BY_CALL, BY_NONE = "no memory", "by the call", "with less"
-# The answers that say so. One of a job has its statuses first.
-REFUSED = re.compile(r".*\bno memory\b.*|(?:0/00 )?0/06\b.*")
+# What a row is answered that had no memory for its own words.
+UNREAD = "unread"
+# The answers that say that a call had none. One of a job has its statuses first.
+REFUSED = re.compile(r".*\bNoMemory\b.*|(?:0/00 )?0/06\b.*")
 # Rows, with their answers, whose calls take no memory: it can't be refused to them.
 TAKES_NONE = re.compile(
     r"(?:unit|space) (?:\w+ )?(?:refresh|meet|keeps|gate)\b.*"
     # A comparison, what is full, newer, busy or held by another, and a pair that fails.
-    r"|unit \w+ \w+ compare [^;]* = at .*|.* = (?:full|newer|busy|failed|not free)\b.*|unit close = .*"
+    r"|unit \w+ \w+ compare [^;]* = at .*|.* = (?:(?:Ok|Err|Some)\()?(?:Full|Newer|Busy|Failed|None)\b.*|unit close = .*"
     # A Read that doesn't wait and isn't answered, and jobs that a check refuses or that have no parts.
-    r"|space \w+ now .* = (?:crosses|out of range)"
+    r"|space \w+ now .* = (?:Crosses|OutOfRange)"
     r"|space \w+ (?:run|poll) .* = 0/(?!00|06)[0-9a-f]{2}(?: 0/[0-9a-f]{2})?"
     r"|space \w+ (?:run|poll) dataset (?!.*deallocate).*"
 )
@@ -33,29 +35,29 @@ TAKES_NONE = re.compile(
 def left_by(row, answer):
     """The rows that leave what the row's call says that it leaves where it gives this answer, as it was refused."""
     match row.split():
+        case [_, "close"]:
+            # It is lost.
+            return [row]
+        case _ if answer == UNREAD:
+            return [""]
         case ["unit", who, "observe" | "history", *_] | ["unit", who, "poll", "read" | "compare", _, _] | ["unit", who, "poll", "compare", _, _, _]:
             # The pass is brought up nevertheless.
             return [f"unit {who} refresh"]
         case ["unit", who, "change" | "try" | "poll" as how, *_]:
             # The pass is brought up and the gate called, as by a pair that fails.
             return [f"unit {who} {how} compare 0 1 e7 first ; write 0 1 e7 second"]
-        case ["space", who, "history", unit]:
-            return [f"space {who} refresh {unit}"]
         case ["space", who, "run" | "poll" as how, *command]:
             return [*parts_done(who, how, command, answer)]
-        case [_, "close"]:
-            # It is lost.
-            return [row]
     return [""]
 
 
 def parts_done(port, how, command, answer):
     """The parts that a job lists as done, a row each, and that the port has found the unit of the one that found no memory."""
     yield ""
-    for unit, end in re.findall(r"; unit (\d+) at \d+ ([\w-]+)", answer):
-        if end == "no-memory":
+    for unit, end in re.findall(r"; unit (\d+) at \d+ (\w+)", answer):
+        if end == "NoMemory":
             yield f"space {port} refresh {unit}"
-        elif end == "done":
+        elif end == "Done":
             yield f"space {port} {how} {part_in(int(unit), command)}"
         else:
             yield f"space {port} refresh {unit}"
@@ -106,42 +108,40 @@ class Rows:
         return (end.status, end.out.splitlines()) == (0, self.told)
 
     def refused(self, end, whole, refusals):
-        lines, asked, by_call = end.out.splitlines(), [[row] for row in self.rows], []
-        ends = (end.status, end.err)
-        is_ended = ends == (1, f"line {len(lines) + 1} has no memory\n")
+        lines, asked, unlike = end.out.splitlines(), [[row] for row in self.rows], []
+        is_ended = (end.status, end.err) == (1, "")
         while True:
             expected = self.answers(asked)
-            place = next((it for it, line in enumerate(lines) if it not in by_call and expected.get(it) != line), None)
+            place = next((it for it, line in enumerate(lines) if it not in unlike and expected.get(it) != line), None)
             if place is None:
                 break
             row, line = self.rows[place], lines[place]
-            if not REFUSED.fullmatch(line):
+            if line != UNREAD and not REFUSED.fullmatch(line):
                 raise ValueError(f"{row} is answered {line!r} and not {expected.get(place)!r}")
-            if TAKES_NONE.fullmatch(f"{row} = {self.told[place]}"):
+            if line != UNREAD and TAKES_NONE.fullmatch(f"{row} = {self.told[place]}"):
                 raise ValueError(f"{row} takes memory")
             asked[place] = left_by(row, line)
-            by_call.append(place)
-        if not is_ended and (len(lines) != len(expected) - 1 or ends != expected["end"]):
+            unlike.append(place)
+        if not is_ended and (len(lines) != len(self.rows) or (end.status, end.err) != (0, "")):
             raise ValueError("it is another end")
-        if not is_ended and not by_call:
+        if not is_ended and not unlike:
             if refusals == 1 and end.asks_for_less:
                 # Room for more than was needed at once was asked for, and that was had.
                 return BY_NONE
             raise ValueError("all is answered, though a growth was refused")
+        by_call = [place for place in unlike if lines[place] != UNREAD]
         return f"{BY_CALL}: {' '.join(map(str, by_call))}" if by_call else BY_ROW
 
     def answers(self, asked):
         """What the program answers to these rows, of which there is a list in the place of each row of the group: by the row's place, where it
-        is asked alone, and by "end" its status and standard error."""
+        is asked alone."""
         given = "".join(f"{row}\n" for rows in asked for row in rows)
         ended = subprocess.run([PROGRAM], input=given, capture_output=True, text=True, env={}, check=False)
-        lines, expected, line, error = ended.stdout.splitlines(), {}, 0, ended.stderr
+        lines, expected, line = ended.stdout.splitlines(), {}, 0
         for place, rows in enumerate(asked):
             if line < len(lines):
                 expected[place] = lines[line]
-            error = error.replace(f"line {line + 1} is", f"line {place + 1} is")
             line += len(rows)
-        expected["end"] = (ended.returncode, error)
         return expected
 
     def amiss(self, ends):

@@ -30,6 +30,7 @@ ANSWERS = {
 # Calls that no program makes, and who does.
 LEFT_OUT = {
     ("nvm_record", "Payload::copy_of"): "nvm_c",
+    ("nvm_space", "Space::history"): "tests of nvm_thread_tests",
     ("nvm_engine", "execute"): "tests of nvm_thread_tests",
     ("nvm_engine", "audit_bytes"): "tests of nvm_thread_tests",
     ("nvm_engine", "judge_alone"): "nvm_c",

@@ -2,8 +2,10 @@
 use crate::{audit, contradiction, evidence, file, judge, run, trace};
 use anyhow::{Result, bail};
 use nvm_audit::Record;
+use nvm_file::{read_record, upgrade};
 use nvm_judge::Judgment;
 use nvm_plan::Job;
+use nvm_record::Payload;
 use nvm_search::Searches;
 use nvm_standard::{Deallocated, Held, Profile, points_of};
 use nvm_store::Limit;
@@ -54,7 +56,7 @@ pub fn recorded(
     };
     println!(rt; "record_of: {} jobs", done.jobs.len())?;
     kept(rt, seen, &done)?;
-    let said = judge::is_explained(alloc, &Searches, seen, PROFILE, 100)?;
+    let said = judge::is_explained(alloc, &Searches, seen, PROFILE, 100);
     println!(rt; "is_explained: {said:?}")?;
     Ok(())
 }
@@ -67,11 +69,29 @@ fn kept(
 ) -> Result<()> {
     let alloc = rt.alloc();
     println!(rt; "file_of: {} bytes", file::file_of(alloc, done)?.len())?;
-    println!(rt; "is_lawful: {}", audit::is_lawful(rt, alloc, done)?)?;
-    let is_certified = trace::is_certified(rt, alloc, STRICT, seen, done)?;
-    println!(rt; "is_certified: {is_certified}")?;
-    let explained = witness_alone(alloc, STRICT, seen, done)?;
-    println!(rt; "witness_alone: {explained:?}")?;
+    println!(rt; "is_lawful: {:?}", audit::is_lawful(rt, alloc, done))?;
+    println!(rt;
+        "is_certified: {:?}",
+        trace::is_certified(rt, alloc, STRICT, seen, done)
+    )?;
+    println!(rt;
+        "witness_alone: {:?}",
+        witness_alone(alloc, STRICT, seen, done)
+    )?;
+    Ok(())
+}
+
+/// The file of a record of the first version without a job: by one worker, on 32 blocks of 512 bytes in four units, with 100 changes in each at
+/// most.
+const OLD: &[u8] =
+    b"NVR1\x20\0\0\0\0\0\0\0\0\x02\0\0\x07\0\0\0\x07\0\x03\0\x63\0\x01\0\0\0\0\0\0\0\0\0\0\0\0\0\0\0\0\0\0\0\0\0\0\0\0\0";
+
+/// No caller's: a record of the first version becomes one of the second.
+pub fn upgraded(rt: &(impl AllocGlobal + Print)) -> Result<()> {
+    let alloc = rt.alloc();
+    let mut record = read_record(alloc, &Payload::copy_of(alloc, OLD)?)?;
+    let told = upgrade(&mut record);
+    println!(rt; "upgrade: {told:?}, version {:?}", record.version)?;
     Ok(())
 }
 
@@ -85,8 +105,8 @@ pub fn judged(rt: &(impl AllocGlobal + Print), text: &str) -> Result<()> {
         bail!("there is no contradiction");
     };
     let points = points_of(alloc, &seen, PROFILE)?;
-    let is_contradicted = contradiction::is_contradicted(alloc, &points, found)?;
-    println!(rt; "is_contradicted: {is_contradicted}")?;
+    let is_contradicted = contradiction::is_contradicted(alloc, &points, found);
+    println!(rt; "is_contradicted: {is_contradicted:?}")?;
     sent(rt, &seen, &judgment)
 }
 
@@ -99,7 +119,9 @@ fn sent(rt: &(impl AllocGlobal + Print), seen: &Trace, judgment: &Judgment<'_>) 
     println!(rt; "evidence_file_of: {} bytes", kept.len())?;
     let seen = file::trace_file_of(alloc, seen)?;
     println!(rt; "trace_file_of: {} bytes", seen.len())?;
-    let refuted = evidence::refute_files(alloc, &seen, &kept)?;
-    println!(rt; "refute_files: {refuted:?}")?;
+    println!(rt;
+        "refute_files: {:?}",
+        evidence::refute_files(alloc, &seen, &kept)
+    )?;
     Ok(())
 }

@@ -5,7 +5,10 @@ use crate::{generate, geometry, plan, record, space, store, unit};
 use anyhow::{Context, Result, bail, ensure};
 use nvm_geometry::Geometry;
 use nvm_plan::{Body, Job, fits};
-use nvm_record::{BlockSize, Command, Op, Payload, push_spelling};
+use nvm_record::{
+    Block, BlockSize, Command, Completion, Op, Payload, ReadData, Status, completion_bytes,
+    push_spelling,
+};
 use nvm_space::{Progress, Space};
 use nvm_store::{ActRef, Answer, Limit, Place, UnitBlocks};
 use nvm_unit::Unit;
@@ -24,6 +27,23 @@ fn is_read(answer: &Answer, data: &Payload) -> bool {
         Answer::Payload(read) => read.as_slice() == data.as_slice(),
         Answer::Status(_) => false,
     }
+}
+
+/// No caller's: a completion, whose fields have their places by nvme/types.h of libnvme, and copies.
+pub fn copied(rt: &(impl AllocGlobal + Print)) -> Result<()> {
+    let alloc = rt.alloc();
+    let data = filled(alloc, 0x41, 1)?;
+    let block = Block::Bytes(data.share()?);
+    let completion = Completion {
+        host: 258,
+        cid: 41394,
+        status: Status { sct: 2, sc: 0x85 },
+        payload: Some(ReadData::shared(data.share()?)),
+    };
+    println!(rt; "completion_bytes: {:?}", completion_bytes(&completion))?;
+    let is_copied = completion.clone().is_ok() && block.clone().is_ok();
+    println!(rt; "copied: {is_copied} {}", data.into_vec(alloc).is_ok())?;
+    Ok(())
 }
 
 /// Of a Flush and the last job's command, as a host sends them.
@@ -120,8 +140,10 @@ pub fn written(rt: &(impl AllocGlobal + Print + Wait), limit: Limit) -> Result<(
     ensure!(unit.covers(act), "the Write lies elsewhere");
     let done = unit::write_and_read(rt, alloc, &unit, &mut passes[0], 0, 9, 2, &data);
     let read = done.read.ok().context("there was no memory")?;
-    let is_read = is_read(&read.answer, &data);
+    let is_read = is_read(&read.clone()?.answer, &data);
     println!(rt; "write_and_read: {:?} {is_read}", done.write)?;
+    let is_opened = Unit::unrecorded(alloc, 1, place, 1, true).is_ok();
+    println!(rt; "unrecorded: {is_opened}")?;
     Ok(())
 }
 

@@ -1,79 +1,95 @@
-//! The program `nvm_rows`: makes the calls that standard input has, one a line, and prints what each answers.
+//! The program `nvm_rows`: makes the calls that standard input has, one a line, and prints what each answers, on a line, too.
 //!
-//! A line has a layer's word and then the call's. Empty lines and those that begin with `#` are printed as they stand.
+//! A row has words: whom it asks, what, and of what. `unit open` and `space open` begin a new unit or space. A row that asks for nothing that
+//! there is, or that has no memory for its words, is answered `unread`. Empty rows and those that begin with `#` are printed as they stand.
 #![tactic(auto)]
 
-mod fault;
-mod file;
 mod job;
-mod plan;
-mod record;
-mod shared;
 mod spaces;
 mod units;
-mod words;
 
-use crate::fault::RowFault;
-use crate::shared::Opened;
+use nvm_store::Limit;
+use std::alloc::Global;
+use std::io;
+use std::mem::replace;
 use std::process::ExitCode;
 use std::sync::Wait;
 
+/// What is open, if something is.
+#[derive(Drop)]
+enum Opened {
+    Nothing,
+    Unit(units::Ground),
+    Space(spaces::Ground),
+}
+
 fn main(rt: HostRuntime) -> ExitCode {
     let mut opened = Opened::Nothing;
-    let mut line = 0u64;
     for row in rt.lines(rt.alloc()) {
-        line = line.saturating_add(1);
         let Ok(row) = row else {
-            return ended(&rt, line, RowFault::NoMemory);
+            return ExitCode::from(1);
         };
-        if let Err(fault) = printed(&rt, &mut opened, row.as_str()) {
-            return ended(&rt, line, fault);
+        if answered(&rt, &mut opened, row.as_str()).is_err() {
+            return ExitCode::from(1);
         }
     }
     ExitCode::from(0)
 }
 
-/// Says of which line there is no answer, and why.
-fn ended<R: Eprint>(rt: &R, line: u64, fault: RowFault) -> ExitCode {
-    let why = match fault {
-        RowFault::Unread => "is no row",
-        RowFault::NoMemory => "has no memory",
-        RowFault::Unwritten => "can't be answered",
-    };
-    let _ = eprintln!(rt; "line {line} {why}");
-    ExitCode::from(1)
-}
-
 /// Prints a heading, or what a row's call answers.
-fn printed<R: AllocGlobal + Print + Wait>(
+fn answered<R: AllocGlobal + Print + Wait>(
     rt: &R,
     opened: &mut Opened,
     row: &str,
-) -> Result<(), RowFault> {
+) -> io::Result<()> {
     if row.is_empty() || row.starts_with('#') {
-        return shown(rt, row);
+        return rt.println(row);
     }
-    let words: Vec<&str> = row.split_whitespace().collect(rt.alloc())?;
-    shown(rt, answer(rt, opened, words.as_slice())?.as_str())
+    let (layer, rest) = cut(row);
+    let (who, rest) = cut(rest);
+    let (call, of) = cut(rest);
+    match who {
+        "open" => match open(rt.alloc(), layer, call) {
+            Some(new) => {
+                *opened = new;
+                rt.println("opened")
+            }
+            None => rt.println("unread"),
+        },
+        "close" => closed(rt, replace(opened, Opened::Nothing)),
+        _ => match opened {
+            Opened::Nothing => rt.println("unread"),
+            Opened::Unit(ground) => ground.answered(rt, who, call, of),
+            Opened::Space(ground) => ground.answered(rt, who, call, of),
+        },
+    }
 }
 
-fn shown<R: Print>(rt: &R, line: &str) -> Result<(), RowFault> {
-    match rt.println(line) {
-        Ok(()) => Ok(()),
-        Err(_) => Err(RowFault::Unwritten),
+/// The first word, and the others.
+pub fn cut(words: &str) -> (&str, &str) {
+    match words.split_once(' ') {
+        Some(two) => two,
+        None => (words, ""),
     }
 }
 
-/// What the call of these words answers.
-fn answer<R: AllocGlobal + Wait>(
-    rt: &R,
-    opened: &mut Opened,
-    words: &[&str],
-) -> Result<String, RowFault> {
-    match words {
-        ["record", call @ ..] => record::answer(rt.alloc(), call),
-        ["plan", call @ ..] => plan::answer(rt.alloc(), call),
-        ["file", call @ ..] => file::answer(rt.alloc(), call),
-        _ => shared::answer(rt, rt.alloc(), opened, words),
+/// A unit whose history has so many entries at most, or a space of such units. A space without a number has no limit.
+fn open(alloc: Global, layer: &str, most: &str) -> Option<Opened> {
+    match layer {
+        "unit" => Some(Opened::Unit(units::Ground::open(alloc, limit(most)?)?)),
+        _ => Some(Opened::Space(spaces::Ground::open(alloc, limit(most))?)),
+    }
+}
+
+fn limit(most: &str) -> Option<Limit> {
+    Limit::new(most.parse().ok()?)
+}
+
+/// Tells how many entries each unit's history has at the end.
+fn closed<R: AllocGlobal + Print>(rt: &R, opened: Opened) -> io::Result<()> {
+    match opened {
+        Opened::Nothing => rt.println("unread"),
+        Opened::Unit(ground) => ground.closed(rt),
+        Opened::Space(ground) => ground.closed(rt),
     }
 }

@@ -1,5 +1,4 @@
 //! A space and its two ports.
-mod answers;
 mod ground;
 mod ports;
 

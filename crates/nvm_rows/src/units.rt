@@ -1,5 +1,4 @@
 //! A shared unit and its two passes.
-mod answers;
 mod ground;
 mod passes;
 

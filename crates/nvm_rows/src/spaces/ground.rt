@@ -1,28 +1,26 @@
-//! LBAs 0 to 31 with blocks of 512 bytes, in 4 units of 8 LBAs each, and the two ports of a space of them.
-ghost use Rattle.std.specs.Prelude.{◌≡◌, IfOk};
+//! LBAs 0 to 31 with blocks of 512 bytes, in 4 units of 8 LBAs each, and the two ports of a space of them, which counts its entries.
+ghost use Rattle.std.specs.Prelude.{◌≡◌, IfSome};
 ghost use Rattle.nvm_space.specs.Ports.{AreAllPortsOf, IsPortOf};
 
-use crate::fault::RowFault;
-use crate::shared::kept_text;
-use crate::spaces::ports::{called, history};
-use crate::words::number;
+use crate::spaces::ports::called;
 use nvm_geometry::Geometry;
 use nvm_space::{Port, Space};
-use nvm_store::{History, Limit};
+use nvm_store::Limit;
 use nvm_unit::{Count, Kept};
 use std::alloc::Global;
+use std::io;
 use std::marker::Model;
 use std::sync::Wait;
 
 /// Contracts see the space. That the ports are all of its is true of each.
 #[derive(Drop)]
-pub struct Ground<K: Kept> {
-    space: Space<K>,
-    first: Port<K>,
-    second: Port<K>,
+pub struct Ground {
+    space: Space<Count>,
+    first: Port<Count>,
+    second: Port<Count>,
 }
 
-impl<K: Kept> Model for Ground<K> {
+impl Model for Ground {
     ghost use Rattle.std.specs.Prelude.{◌≡◌};
     ghost use Rattle.nvm_space.specs.Ports.{IsPortOf};
     ghost use Rattle.nvm_space.specs.Spaces.{SpaceName};
@@ -35,94 +33,76 @@ impl<K: Kept> Model for Ground<K> {
         × (g.first.number ≡ 0) × (g.second.number ≡ 1) };
 }
 
-/// A Write of up to 8 blocks is one step, and a pair of up to 4.
-fn namespace() -> Result<Geometry, RowFault> {
-    Geometry::new(32, 512, 7, 0, 7, 3)
-        .ok()
-        .ok_or(RowFault::Unread)
-}
-
-impl Ground<History> {
-    /// With versions. The history of each unit has so many entries at most.
-    pub fn recorded(alloc: Global, limit: Limit) -> Result<Ground<History>, RowFault> {
-        match Space::new(alloc, namespace()?, 2, limit) {
-            Ok((space, ports)) => with_both(space, ports),
-            Err(_) => Err(RowFault::NoMemory),
-        }
-    }
-
-    /// The history of a unit that a port finds, or what any other call answers.
-    pub fn asked(
-        &mut self,
-        rt: &impl Wait,
-        alloc: Global,
-        call: &[&str],
-    ) -> Result<String, RowFault> {
-        match call {
-            ["0", "history", unit] => {
-                history(rt, alloc, &self.space, &mut self.first, number(unit)?)
-            }
-            ["1", "history", unit] => {
-                history(rt, alloc, &self.space, &mut self.second, number(unit)?)
-            }
-            _ => self.answer(rt, alloc, call),
-        }
-    }
-}
-
-impl Ground<Count> {
-    /// Without versions.
-    pub fn counted(alloc: Global, limit: Option<Limit>) -> Result<Ground<Count>, RowFault> {
-        let namespace = namespace()?;
+impl Ground {
+    /// With versions, where each unit's history has so many entries at most; else without. A Write of up to 8 blocks is one step, and a pair of up
+    /// to 4.
+    pub fn open(alloc: Global, limit: Option<Limit>) -> Option<Ground> {
+        let Ok(namespace) = Geometry::new(32, 512, 7, 0, 7, 3) else {
+            return None;
+        };
         let opened = match limit {
-            Some(limit) => Space::counted(alloc, namespace, 2, limit, false),
+            Some(limit) => Space::counted(alloc, namespace, 2, limit, true),
             None => Space::unrecorded(alloc, namespace.large(), 2, false),
         };
         match opened {
             Ok((space, ports)) => with_both(space, ports),
-            Err(_) => Err(RowFault::NoMemory),
+            Err(_) => None,
         }
     }
-}
 
-impl<K: Kept> Ground<K> {
-    /// What a call of both ports answers, or of the one whose number comes first.
-    pub fn answer(
+    /// Tells what a call of both ports answers, or of the one that has this number.
+    pub fn answered<R: AllocGlobal + Print + Wait>(
         &mut self,
-        rt: &impl Wait,
-        alloc: Global,
-        call: &[&str],
-    ) -> Result<String, RowFault> {
-        match call {
-            ["meet"] => {
+        rt: &R,
+        who: &str,
+        call: &str,
+        of: &str,
+    ) -> io::Result<()> {
+        match who {
+            "0" => called(rt, &self.space, &mut self.first, call, of),
+            "1" => called(rt, &self.space, &mut self.second, call, of),
+            "meet" => {
                 self.space.meet(rt, &mut self.first, &mut self.second);
-                Ok(String::from_str(alloc, "met")?)
+                rt.println("met")
             }
-            ["0", of @ ..] => called(rt, alloc, &self.space, &mut self.first, of),
-            ["1", of @ ..] => called(rt, alloc, &self.space, &mut self.second, of),
-            _ => Err(RowFault::Unread),
+            _ => rt.println("unread"),
         }
     }
 
-    /// How many entries the whole history of each unit has.
-    pub fn closed(self, alloc: Global) -> Result<String, RowFault> {
+    /// Tells how many entries the whole history of each unit has.
+    pub fn closed<R: AllocGlobal + Print>(self, rt: &R) -> io::Result<()> {
         let Ground {
             space,
             first,
             second,
         } = self;
-        let kept = space.close(alloc, vec![in alloc; first, second]?)?;
-        kept_text(alloc, &kept)
+        let Ok(ports) = vec![in rt.alloc(); first, second] else {
+            return rt.println("unread");
+        };
+        match space.close(rt.alloc(), ports) {
+            Ok(kept) => counted(rt, &kept),
+            Err(_) => rt.println("NoMemory"),
+        }
     }
 }
 
+fn counted(rt: &impl Print, kept: &[Count]) -> io::Result<()> {
+    rt.print("entries")?;
+    for count in kept {
+        print!(rt; " {}", count.entries())?;
+    }
+    rt.println("")
+}
+
 /// A new space with its two ports.
-fn with_both<K: Kept>(space: Space<K>, ports: Vec<Port<K>>) -> Result<Ground<K>, RowFault>
+fn with_both(space: Space<Count>, ports: Vec<Port<Count>>) -> Option<Ground>
     requires count { space.ports ≡ 2 }
     requires all { AreAllPortsOf space ports.items }
 {
-    let (space, first, second) = dealt(space, ports)?;
-    Ok(Ground {
+    let Some((space, first, second)) = dealt(space, ports) else {
+        return None;
+    };
+    Some(Ground {
         space,
         first,
         second,
@@ -130,22 +110,22 @@ fn with_both<K: Kept>(space: Space<K>, ports: Vec<Port<K>>) -> Result<Ground<K>,
 }
 
 /// A new space, and its two ports.
-fn dealt<K: Kept>(
-    space: Space<K>,
-    ports: Vec<Port<K>>,
-) -> Result<(Space<K>, Port<K>, Port<K>), RowFault>
+fn dealt(
+    space: Space<Count>,
+    ports: Vec<Port<Count>>,
+) -> Option<(Space<Count>, Port<Count>, Port<Count>)>
     requires count { space.ports ≡ 2 }
     requires all { AreAllPortsOf space ports.items }
-    ensures same { IfOk result (λ s. s.0 ≡ space) }
-    ensures of { IfOk result (λ s. IsPortOf s.0 s.1 × IsPortOf s.0 s.2) }
-    ensures numbers { IfOk result (λ s. (s.1.number ≡ 0) × (s.2.number ≡ 1)) }
+    ensures same { IfSome result (λ s. s.0 ≡ space) }
+    ensures of { IfSome result (λ s. IsPortOf s.0 s.1 × IsPortOf s.0 s.2) }
+    ensures numbers { IfSome result (λ s. (s.1.number ≡ 0) × (s.2.number ≡ 1)) }
 {
     let mut ports = ports;
     let Some(second) = ports.pop() else {
-        return Err(RowFault::Unread);
+        return None;
     };
     let Some(first) = ports.pop() else {
-        return Err(RowFault::Unread);
+        return None;
     };
-    Ok((space, first, second))
+    Some((space, first, second))
 }

@@ -1,21 +1,19 @@
 //! Calls of one pass, and the gate that changes have.
 ghost use Rattle.std.specs.Prelude.{◌≡◌, true};
-ghost use Rattle.nvm_plan.specs.Fits.{FitsNamespace};
 ghost use Rattle.nvm_store.specs.ActRef.{lent_operation_of};
 ghost use Rattle.nvm_store.specs.History.{IsLawfulHistory};
 ghost use Rattle.nvm_store.specs.Look.{look_operation_of};
 ghost use Rattle.nvm_store.specs.Place.{IsCovered};
 ghost use Rattle.nvm_unit.specs.Passes.{IsPassOf};
 
-use crate::fault::RowFault;
-use crate::job::{NUMBER, entries_text, job};
-use crate::units::answers::{changed_text, looked_text, observed_text};
+use crate::job::{NUMBER, job};
 use nvm_geometry::Geometry;
 use nvm_plan::{Job, LentPart, fits, job_part_in};
-use nvm_store::{ActRef, Answer, History, Look, Place, UnitBlocks, answer, replay};
+use nvm_store::{Act, ActRef, Answer, History, Look, Place, UnitBlocks, answer, replay};
 use nvm_text::{RunsText, StatusText};
-use nvm_unit::{Busy, Gate, Kept, Open, Pass, Unit};
-use std::alloc::Global;
+use nvm_unit::{Gate, Observed, Open, Pass, Unit};
+use std::fmt::Debug;
+use std::io;
 use std::sync::Wait;
 use std::sync::atomic::{AtomicU64, Ordering};
 
@@ -47,186 +45,231 @@ impl Gate for Counting {
     fn after_job(&self, _job: u32) {}
 }
 
-/// What the call of a pass answers. The part of a job in the unit is done, of a namespace that has another unit, so that ranges may leave
-/// this one.
-pub fn called<K: Kept>(
-    rt: &impl Wait,
-    alloc: Global,
-    unit: &Unit<K>,
-    pass: &mut Pass<K>,
-    versions: bool,
+/// Tells what the call of a pass answers.
+pub fn called<R: AllocGlobal + Print + Wait>(
+    rt: &R,
+    unit: &Unit,
+    pass: &mut Pass,
     gate: &Counting,
-    call: &[&str],
-) -> Result<String, RowFault>
+    call: &str,
+    of: &str,
+) -> io::Result<()>
     requires of { IsPassOf unit.now pass.old }
-    requires versions { unit.now.versions ≡ versions }
+    requires versions { unit.now.versions ≡ true }
     ensures of { IsPassOf unit.now pass.new }
     ensures number { pass.new.view.number ≡ pass.old.view.number }
 {
-    let Some((call, of)) = call.split_first() else {
-        return Err(RowFault::Unread);
-    };
-    if *call == "refresh" {
-        unit.refresh(rt, pass);
-        return Ok(String::from_str(alloc, "refreshed")?);
+    match call {
+        "refresh" => {
+            unit.refresh(rt, pass);
+            rt.println("refreshed")
+        }
+        "history" => history(rt, unit, pass),
+        _ => match job(rt.alloc(), of) {
+            Some(job) => worked(rt, unit, pass, gate, call, &job),
+            None => rt.println("unread"),
+        },
     }
-    let job = job(alloc, of)?;
-    worked(rt, alloc, unit, pass, versions, gate, call, &job)
 }
 
-/// What the part of a job in the unit is answered.
-fn worked<K: Kept>(
-    rt: &impl Wait,
-    alloc: Global,
-    unit: &Unit<K>,
-    pass: &mut Pass<K>,
-    versions: bool,
+/// Tells what the part of a job in the unit is answered, of a namespace that has another unit, so that ranges may leave this one.
+fn worked<R: AllocGlobal + Print + Wait>(
+    rt: &R,
+    unit: &Unit,
+    pass: &mut Pass,
     gate: &Counting,
     call: &str,
     job: &Job,
-) -> Result<String, RowFault>
+) -> io::Result<()>
     requires of { IsPassOf unit.now pass.old }
-    requires versions { unit.now.versions ≡ versions }
+    requires versions { unit.now.versions ≡ true }
     ensures of { IsPassOf unit.now pass.new }
     ensures number { pass.new.view.number ≡ pass.old.view.number }
 {
     let Ok(namespace) = Geometry::new(16, 512, 7, 0, 7, 7) else {
-        return Err(RowFault::Unread);
+        return rt.println("unread");
     };
     if !fits(&namespace.large(), job) {
-        return Err(RowFault::Unread);
+        return rt.println("unread");
     }
     match job_part_in(&namespace, job, 0) {
-        Some(LentPart::Act(act)) => changed(rt, alloc, unit, pass, gate, call, act),
-        Some(LentPart::Look(look)) => looked(rt, alloc, unit, pass, versions, call, look),
-        None => Err(RowFault::Unread),
+        Some(LentPart::Act(act)) => changed(rt, unit, pass, gate, call, act),
+        Some(LentPart::Look(look)) => looked(rt, unit, pass, call, look),
+        None => rt.println("unread"),
     }
 }
 
-/// What a change is answered.
-fn changed<K: Kept>(
-    rt: &impl Wait,
-    alloc: Global,
-    unit: &Unit<K>,
-    pass: &mut Pass<K>,
+/// Tells what a change is answered.
+fn changed<R: AllocGlobal + Print + Wait>(
+    rt: &R,
+    unit: &Unit,
+    pass: &mut Pass,
     gate: &Counting,
     call: &str,
     act: ActRef<'_>,
-) -> Result<String, RowFault>
+) -> io::Result<()>
     requires { IsPassOf unit.now pass.old }
     ensures of { IsPassOf unit.now pass.new }
     ensures number { pass.new.view.number ≡ pass.old.view.number }
 {
     if !unit.covers(act) {
-        return Err(RowFault::Unread);
+        return rt.println("unread");
     }
+    let alloc = rt.alloc();
     match call {
-        "change" => changed_text(alloc, unit.change(rt, alloc, pass, NUMBER, act, gate)),
-        "try" => match unit.try_change(alloc, pass, NUMBER, act, gate) {
-            Ok(changed) => changed_text(alloc, changed),
-            Err(Busy { word }) => Ok(format!(in alloc; "busy with word {word}")?),
-        },
-        "poll" => match unit.poll_change(alloc, pass, NUMBER, act, gate) {
-            Some(changed) => changed_text(alloc, changed),
-            None => Ok(String::from_str(alloc, "not free")?),
-        },
-        _ => Err(RowFault::Unread),
+        "change" => {
+            let changed = unit.change(rt, alloc, pass, NUMBER, act, gate);
+            println!(rt; "{changed:?}")
+        }
+        "try" => {
+            let tried = unit.try_change(alloc, pass, NUMBER, act, gate);
+            println!(rt; "{tried:?}")
+        }
+        "poll" => {
+            let polled = unit.poll_change(alloc, pass, NUMBER, act, gate);
+            println!(rt; "{polled:?}")
+        }
+        _ => rt.println("unread"),
     }
 }
 
-/// What a look is answered.
-fn looked<K: Kept>(
-    rt: &impl Wait,
-    alloc: Global,
-    unit: &Unit<K>,
-    pass: &mut Pass<K>,
-    versions: bool,
+/// Tells what a look is answered.
+fn looked<R: AllocGlobal + Print + Wait>(
+    rt: &R,
+    unit: &Unit,
+    pass: &mut Pass,
     call: &str,
     look: Look<'_>,
-) -> Result<String, RowFault>
+) -> io::Result<()>
     requires of { IsPassOf unit.now pass.old }
-    requires versions { unit.now.versions ≡ versions }
+    requires versions { unit.now.versions ≡ true }
     ensures of { IsPassOf unit.now pass.new }
     ensures number { pass.new.view.number ≡ pass.old.view.number }
 {
     if !unit.covers_look(look) {
-        return Err(RowFault::Unread);
+        return rt.println("unread");
     }
+    let alloc = rt.alloc();
     match call {
-        "observe" => observed_text(alloc, unit.observe(rt, alloc, pass, look)),
+        "observe" => told(rt, unit.observe(rt, alloc, pass, look)),
+        "look" => told(rt, unit.look(alloc, pass, look)),
         "poll" => match unit.poll_observe(alloc, pass, look, &Open) {
-            Some(observed) => observed_text(alloc, observed),
-            None => Ok(String::from_str(alloc, "not free")?),
+            Some(observed) => told(rt, observed),
+            None => rt.println("None"),
         },
-        "look" if versions => looked_text(alloc, unit.look(alloc, pass, look)),
-        _ => Err(RowFault::Unread),
+        _ => rt.println("unread"),
     }
 }
 
-/// The history that the pass finds, and each block after it.
-pub fn history(
-    rt: &impl Wait,
-    alloc: Global,
-    unit: &Unit,
-    pass: &mut Pass,
-) -> Result<String, RowFault>
+/// Tells the point, and the data or the status, or why there is none.
+fn told<E: Debug + Drop>(rt: &impl Print, observed: Result<Observed, E>) -> io::Result<()> {
+    match observed {
+        Ok(Observed { point, answer }) => {
+            print!(rt; "at {point}:")?;
+            answered(rt, &answer)?;
+            rt.println("")
+        }
+        Err(fault) => println!(rt; "{fault:?}"),
+    }
+}
+
+fn answered(rt: &impl Print, answer: &Answer) -> io::Result<()> {
+    match answer {
+        Answer::Payload(data) => print!(rt; " {}", RunsText(data.as_slice())),
+        Answer::Status(status) => print!(rt; " {}", StatusText(*status)),
+    }
+}
+
+/// Tells the history that the pass finds, and each block after it.
+fn history<R: AllocGlobal + Print + Wait>(rt: &R, unit: &Unit, pass: &mut Pass) -> io::Result<()>
     requires of { IsPassOf unit.now pass.old }
     ensures of { IsPassOf unit.now pass.new }
     ensures number { pass.new.view.number ≡ pass.old.view.number }
 {
     let place = unit.place();
-    match unit.history(rt, alloc, pass) {
-        Ok(history) => {
-            let text = entries_text(alloc, &history)?;
-            with_blocks(alloc, text, place, &history)
-        }
-        Err(_) => Ok(String::from_str(alloc, "no memory")?),
+    match unit.history(rt, rt.alloc(), pass) {
+        Ok(history) => with_blocks(rt, place, &history),
+        Err(_) => rt.println("NoMemory"),
     }
 }
 
-/// The text, and what a Read of each block is answered after the history.
-fn with_blocks(
-    alloc: Global,
-    text: String,
-    place: Place,
-    history: &History,
-) -> Result<String, RowFault>
+/// Tells each entry, and what a Read of each block is answered after them.
+fn with_blocks<R: AllocGlobal + Print>(rt: &R, place: Place, history: &History) -> io::Result<()>
     requires { IsLawfulHistory place history.now.items }
 {
+    entries(rt, history)?;
     let Place {
         first,
         blocks,
         size,
     } = place;
-    if blocks == 0 || blocks > 65_536 || first > 65_536 - u64::from(blocks) {
-        return Err(RowFault::Unread);
+    if blocks == 0 || blocks > 8 || first > 8 {
+        return rt.println("; unread");
     }
-    let unit = replay(alloc, first, blocks, size, history)?;
-    let mut text = text;
-    text.push_str("; then")?;
+    let Ok(unit) = replay(rt.alloc(), first, blocks, size, history) else {
+        return rt.println("; NoMemory");
+    };
+    rt.print("; then")?;
     for lba in first..first + u64::from(blocks) {
-        push_block(alloc, &mut text, &unit, lba)?;
+        block(rt, &unit, lba)?;
     }
-    Ok(text)
+    rt.println("")
 }
 
-/// Appends what a Read of the block is answered.
-fn push_block(
-    alloc: Global,
-    text: &mut String,
-    unit: &UnitBlocks,
-    lba: u64,
-) -> Result<(), RowFault> {
+/// Tells pass, job and act of each entry.
+fn entries(rt: &impl Print, history: &History) -> io::Result<()> {
+    print!(rt; "entries {}", history.len())?;
+    for entry in history {
+        print!(rt; "; pass {} job {}", entry.pass, entry.job)?;
+        act_told(rt, &entry.act)?;
+    }
+    Ok(())
+}
+
+/// Tells an act, with the bytes of its data or of its ranges.
+fn act_told(rt: &impl Print, act: &Act) -> io::Result<()> {
+    match act {
+        Act::Write {
+            first,
+            blocks,
+            payload,
+        } => print!(rt; " write {first} {blocks} {}", RunsText(payload.as_slice())),
+        Act::Zeroes { first, blocks } => print!(rt; " zeroes {first} {blocks}"),
+        Act::Uncorrectable { first, blocks } => print!(rt; " uncorrectable {first} {blocks}"),
+        Act::Pair {
+            first,
+            blocks,
+            compare,
+            write,
+        } => {
+            let compare = RunsText(compare.as_slice());
+            print!(rt;
+                " pair {first} {blocks} {compare} {}",
+                RunsText(write.as_slice())
+            )
+        }
+        Act::Deallocate {
+            first,
+            blocks,
+            ranges,
+        } => print!(rt;
+            " deallocate {first} {blocks} {}",
+            RunsText(ranges.as_slice())
+        ),
+    }
+}
+
+/// Tells what a Read of the block is answered.
+fn block<R: AllocGlobal + Print>(rt: &R, unit: &UnitBlocks, lba: u64) -> io::Result<()> {
     let look = Look::Read {
         first: lba,
         blocks: 1,
     };
     if !unit.covers_look(look) {
-        return Err(RowFault::Unread);
+        return rt.print(" unread");
     }
-    match answer(alloc, unit, look)? {
-        Answer::Payload(read) => write!(text, " {}", RunsText(read.as_slice()))?,
-        Answer::Status(status) => write!(text, " {}", StatusText(status))?,
+    match answer(rt.alloc(), unit, look) {
+        Ok(read) => answered(rt, &read),
+        Err(_) => rt.print(" NoMemory"),
     }
-    Ok(())
 }

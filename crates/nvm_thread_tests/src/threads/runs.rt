@@ -1,6 +1,6 @@
 //! Workers that do the jobs of a host's list, and audits of their records. LBAs 0 to 31 have blocks of 512 bytes, in 4 units of 8 LBAs each.
-use crate::holding::{Holding, NO_MEMORY, comes_to};
-use nvm_audit::{AuditFault, Verdict, Watcher, audit_watched};
+use crate::holding::{Failure, Holding, NO_MEMORY, comes_to};
+use nvm_audit::{AuditFault, Record, Verdict, Watcher, audit_watched};
 use nvm_engine::{Settings, Shown, Workers, audit_bytes, execute};
 use nvm_file::write_record;
 use nvm_list::assemble;
@@ -50,37 +50,20 @@ fn shown<R: Threads + Wait + Sync, G: Gate + Sync>(
     }
 }
 
-/// Has two workers do the list. Job 0 is held in unit 0 until the other worker has done the awaited job.
-fn held<R: Threads + Wait + Sync>(
-    rt: &R,
-    alloc: Global,
-    awaited: u32,
-    list: &[u8],
-    line: &[u8],
-) -> Result<(), Fail> {
-    let gate = Holding::until(awaited);
-    shown(rt, alloc, list, 2, &gate, line)?;
+/// Two workers act at once: job 0 is held in unit 0 until the other worker has done job 3. The Read finds what was written, or zeroes if the other
+/// worker reads before job 0 is done: the record is audited, so the data is that of its point.
+#[test]
+fn one_worker_does_the_rest_while_a_unit_is_held(rt: HostRuntime) -> Result<(), Fail> {
+    let gate = Holding::until(3);
+    let list = b"write 0 1 41\nwrite 8 1 42\nwrite 16 1 43\nwrite 24 1 44\nread 0 1\n";
+    let line = b"lawful jobs 5 units 4 changes 4 refused 0\n";
+    shown(&rt, rt.alloc(), list.as_slice(), 2, &gate, line.as_slice())?;
     // For want of memory for a thread, one worker does its work after another's.
     if gate.was_seen() {
         Ok(())
     } else {
         Err(Fail::new(NO_MEMORY))
     }
-}
-
-#[test]
-fn two_workers_act_at_once(rt: HostRuntime) -> Result<(), Fail> {
-    let list = b"write 0 1 41\nwrite 8 1 42\n";
-    let line = b"lawful jobs 2 units 4 changes 2 refused 0\n";
-    held(&rt, rt.alloc(), 1, list.as_slice(), line.as_slice())
-}
-
-/// The Read finds what was written, or zeroes if the other worker reads before job 0 is done: the record is audited, so the data is that of its point.
-#[test]
-fn one_worker_does_the_rest_while_a_unit_is_held(rt: HostRuntime) -> Result<(), Fail> {
-    let list = b"write 0 1 41\nwrite 8 1 42\nwrite 16 1 43\nwrite 24 1 44\nread 0 1\n";
-    let line = b"lawful jobs 5 units 4 changes 4 refused 0\n";
-    held(&rt, rt.alloc(), 3, list.as_slice(), line.as_slice())
 }
 
 /// Notes what it is told of jobs 0 to 3: a decimal digit for each call, the last call's at the end.
@@ -122,34 +105,6 @@ fn the_gate_is_told_of_a_job_once_it_is_done(rt: HostRuntime) -> Result<(), Fail
     Ok(())
 }
 
-/// What is shown of one worker's run with one change.
-fn shown_of_one<R: Threads + Wait + Sync>(rt: &R, alloc: Global) -> Result<Shown, Fail> {
-    let line = b"lawful jobs 1 units 4 changes 1 refused 0\n";
-    shown(
-        rt,
-        alloc,
-        b"zeroes 0 1\n".as_slice(),
-        1,
-        &Open,
-        line.as_slice(),
-    )
-}
-
-#[test]
-fn the_file_of_a_run_is_audited(rt: HostRuntime) -> Result<(), Fail> {
-    let alloc = rt.alloc();
-    let shown = shown_of_one(&rt, alloc)?;
-    let mut bytes = Vec::new(alloc);
-    if write_record(&mut bytes, shown.record()).is_err() {
-        return Err(Fail::new(NO_MEMORY));
-    }
-    match audit_bytes(&rt, alloc, &Payload::new(alloc, bytes)?) {
-        Ok(judged) => assert_eq!(rt; judged.status(), 0),
-        Err(_) => return Err(Fail::new(NO_MEMORY)),
-    }
-    Ok(())
-}
-
 /// Keeps the thread that is first done with a unit until a second unit is audited.
 #[derive(Drop)]
 struct Meeting {
@@ -171,16 +126,24 @@ impl Watcher for Meeting {
     }
 }
 
-/// An audit makes at least two threads, on one processor too, unless memory is refused for them.
+/// An audit makes at least two threads, on one processor too, unless memory is refused for them. The file of the run is audited, too.
 #[test]
 fn two_units_are_audited_at_once(rt: HostRuntime) -> Result<(), Fail> {
     let alloc = rt.alloc();
-    let shown = shown_of_one(&rt, alloc)?;
+    let line = b"lawful jobs 1 units 4 changes 1 refused 0\n";
+    let run = shown(
+        &rt,
+        alloc,
+        b"zeroes 0 1\n".as_slice(),
+        1,
+        &Open,
+        line.as_slice(),
+    )?;
     let watcher = Meeting {
         audited: AtomicU64::new(0),
         seen: AtomicU64::new(0),
     };
-    let told = audit_watched(&rt, alloc, shown.record(), &watcher);
+    let told = audit_watched(&rt, alloc, run.record(), &watcher);
     if told == Err(AuditFault::NoMemory) || watcher.seen.load(Ordering::SeqCst) == 0 {
         return Err(Fail::new(NO_MEMORY));
     }
@@ -194,5 +157,25 @@ fn two_units_are_audited_at_once(rt: HostRuntime) -> Result<(), Fail> {
         })
     );
     assert_eq!(rt; watcher.audited.load(Ordering::SeqCst), 4);
+    assert_eq!(rt; status_of_file(&rt, alloc, run.record())?, 0);
     Ok(())
+}
+
+/// The status that an audit of the record's file ends in.
+fn status_of_file<R: Threads + Sync>(
+    rt: &R,
+    alloc: Global,
+    record: &Record,
+) -> Result<u8, Failure> {
+    let mut bytes = Vec::new(alloc);
+    if write_record(&mut bytes, record).is_err() {
+        return Err(NO_MEMORY);
+    }
+    let Ok(bytes) = Payload::new(alloc, bytes) else {
+        return Err(NO_MEMORY);
+    };
+    match audit_bytes(rt, alloc, &bytes) {
+        Ok(judged) => Ok(judged.status()),
+        Err(_) => Err(NO_MEMORY),
+    }
 }

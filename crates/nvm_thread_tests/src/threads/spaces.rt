@@ -66,7 +66,7 @@ fn done_at(unit: u16, point: u32) -> Part {
     }
 }
 
-/// Does a job by the first port, which the gate holds. By the second it polls another while the unit is held, and once more when it isn't any longer.
+/// Does a job by the first port, which the gate holds, and finds the history of its unit. By the second it polls another while the unit is held, and once more when it isn't any longer.
 fn work<R: Wait>(
     rt: &R,
     alloc: Global,
@@ -84,7 +84,7 @@ fn work<R: Wait>(
         b"zeroes 6 12".as_slice()
     };
     let job = job_of(alloc, words)?;
-    if !fits(&space.geometry(), &job) {
+    if !fits(&space.geometry(), &job) || space.regions().count() < 2 {
         return Err("the job doesn't fit");
     }
     if number > 0 {
@@ -92,8 +92,17 @@ fn work<R: Wait>(
         return poll_twice(alloc, space, &mut port, &job, gate);
     }
     let done = space.run_job(rt, alloc, &mut port, 0, &job, gate);
+    let history = space.history(rt, alloc, &mut port, 1);
     gate.leave();
-    parts_of(done)
+    let parts = parts_of(done)?;
+    let Ok(history) = history else {
+        return Err(NO_MEMORY);
+    };
+    if history.len() == 1 {
+        Ok(parts)
+    } else {
+        Err("the history of unit 1 isn't the job alone")
+    }
 }
 
 fn poll_twice(

@@ -6,27 +6,13 @@ ghost use Rattle.nvm_unit.specs.Passes.{IsPassOf};
 
 use super::opened;
 use crate::holding::{Failure, Holding, NO_MEMORY};
-use nvm_record::Payload;
+use nvm_record::{Payload, Status};
 use nvm_store::{ActRef, Answer, Look};
 use nvm_unit::{Busy, Changed, LookFault, ObserveFault, Observed, Open, Pass, Unit};
 use std::alloc::Global;
 use std::sync::Wait;
 use std::test::Fail;
 use std::thread::map_vec;
-
-/// The Read of LBA 0.
-const READ: Look<'static> = Look::Read {
-    first: 0,
-    blocks: 1,
-};
-
-/// The data of a block of such bytes.
-fn block_of(alloc: Global, byte: u8) -> Result<Payload, Failure> {
-    match Payload::copy_of(alloc, &[byte; 512]) {
-        Ok(payload) => Ok(payload),
-        Err(_) => Err(NO_MEMORY),
-    }
-}
 
 /// The Write of a block, which the unit must cover.
 fn write_of<'a>(unit: &Unit, lba: u64, payload: &'a Payload) -> Result<ActRef<'a>, Failure>
@@ -44,63 +30,35 @@ fn write_of<'a>(unit: &Unit, lba: u64, payload: &'a Payload) -> Result<ActRef<'a
     }
 }
 
-/// The point of a Read's answer, and the byte of which the block is full.
-type Read = (u64, u8);
-
-/// What a Read of one block found, if its bytes are all the same.
-fn read_of(observed: &Observed) -> Result<Read, Failure> {
-    let Answer::Payload(payload) = &observed.answer else {
-        return Err("the Read failed");
-    };
-    let Some(byte) = payload.as_slice().first() else {
-        return Err("the Read found no bytes");
-    };
-    if payload.as_slice() != [*byte; 512].as_slice() {
-        return Err("the Read found other bytes");
-    }
-    Ok((observed.point, *byte))
-}
-
-fn looked(found: Result<Observed, LookFault>) -> Result<Read, Failure> {
-    match found {
-        Ok(observed) => read_of(&observed),
-        Err(LookFault::Newer { .. }) => Err("the pass hasn't seen all changes"),
-        Err(LookFault::NoMemory { .. }) => Err(NO_MEMORY),
-    }
-}
-
-/// `None` is of a unit that wasn't free.
-fn polled(found: Option<Result<Observed, ObserveFault>>) -> Result<Option<Read>, Failure> {
-    match found {
-        None => Ok(None),
-        Some(Ok(observed)) => {
-            let read = read_of(&observed)?;
-            Ok(Some(read))
-        }
-        Some(Err(_)) => Err(NO_MEMORY),
-    }
-}
-
-/// What a pass is told of a try to write LBA 1, of a look at LBA 0, and of that block once more when polled.
-type Told = (Result<Changed, Busy>, Read, Option<Read>);
+/// What a pass is told of a try to write LBA 1, of a look that compares LBA 0 with what is written there, and of that Compare once more when
+/// polled.
+type Told = (
+    Result<Changed, Busy>,
+    Result<Observed, LookFault>,
+    Option<Result<Observed, ObserveFault>>,
+);
 
 /// Makes these three calls. None of them is given what a call that waits asks for.
-fn ask(alloc: Global, unit: &Unit, pass: &mut Pass) -> Result<Told, Failure>
+fn ask(alloc: Global, unit: &Unit, pass: &mut Pass, payload: &Payload) -> Result<Told, Failure>
     requires of { IsPassOf unit.now pass.old }
     requires versions { unit.now.versions ≡ true }
     ensures { IsPassOf unit.now pass.new }
 {
-    let payload = block_of(alloc, 0x42)?;
-    let act = write_of(unit, 1, &payload)?;
-    if !unit.covers_look(READ) {
-        return Err("the unit doesn't cover the Read");
+    let act = write_of(unit, 1, payload)?;
+    let look = Look::Compare {
+        first: 0,
+        blocks: 1,
+        payload: payload.as_slice(),
+    };
+    if !unit.covers_look(look) {
+        return Err("the unit doesn't cover the Compare");
     }
     let tried = unit.try_change(alloc, pass, 5, act, &Open);
     if matches!(&tried, Ok(Changed::NoMemory { .. })) {
         return Err(NO_MEMORY);
     }
-    let looked = looked(unit.look(alloc, pass, READ))?;
-    let polled = polled(unit.poll_observe(alloc, pass, READ, &Open))?;
+    let looked = unit.look(alloc, pass, look);
+    let polled = unit.poll_observe(alloc, pass, look, &Open);
     Ok((tried, looked, polled))
 }
 
@@ -111,11 +69,11 @@ fn hold<R: Wait>(
     unit: &Unit,
     pass: &mut Pass,
     gate: &Holding,
+    payload: &Payload,
 ) -> Result<(), Failure>
     requires { IsPassOf unit.now pass.old }
 {
-    let payload = block_of(alloc, 0x41)?;
-    let act = write_of(unit, 0, &payload)?;
+    let act = write_of(unit, 0, payload)?;
     let changed = unit.change(rt, alloc, pass, 0, act, gate);
     gate.leave();
     match changed {
@@ -132,31 +90,41 @@ fn work<R: Wait>(
     unit: &Unit,
     pass: Pass,
     gate: &Holding,
+    payload: &Payload,
 ) -> Result<Option<(Told, Told)>, Failure>
     requires of { IsPassOf unit.now pass }
     requires versions { unit.now.versions ≡ true }
 {
     let mut pass = pass;
     if pass.number() == 0 {
-        hold(rt, alloc, unit, &mut pass, gate)?;
+        hold(rt, alloc, unit, &mut pass, gate, payload)?;
         return Ok(None);
     }
     gate.holds()?;
-    let held = ask(alloc, unit, &mut pass);
+    let held = ask(alloc, unit, &mut pass, payload);
     gate.release();
     let held = held?;
     if !gate.is_left() {
         return Err("the unit is held for ever");
     }
-    let free = ask(alloc, unit, &mut pass)?;
+    let free = ask(alloc, unit, &mut pass, payload)?;
     Ok(Some((held, free)))
+}
+
+fn compared(point: u64, status: Status) -> Observed {
+    Observed {
+        point,
+        answer: Answer::Status(status),
+    }
 }
 
 #[test]
 fn a_look_is_answered_while_a_thread_holds_the_unit(rt: HostRuntime) -> Result<(), Fail> {
     let alloc = rt.alloc();
     let (unit, passes) = opened(alloc, 2, 100)?;
+    let payload = Payload::copy_of(alloc, &[0x41; 512])?;
     let shared = &unit;
+    let written = &payload;
     let gate = Holding::until(0);
     let answers = map_vec(
         &rt,
@@ -164,13 +132,16 @@ fn a_look_is_answered_while_a_thread_holds_the_unit(rt: HostRuntime) -> Result<(
         &|pass: Pass| -> Result<Option<(Told, Told)>, Failure>
             requires of { IsPassOf shared.now pass }
             requires versions { shared.now.versions ≡ true }
-        { work(&rt, alloc, shared, pass, &gate) },
+        { work(&rt, alloc, shared, pass, &gate, written) },
     )?;
     for answer in answers {
         if let Some((held, free)) = answer? {
-            assert_eq!(rt; held, (Err(Busy { word: 1 }), (0, 0), None));
+            let differs = compared(0, Status::COMPARE_FAILURE);
+            assert_eq!(rt; held, (Err(Busy { word: 1 }), Ok(differs), None));
             let tried = Ok(Changed::Done { point: 1 });
-            assert_eq!(rt; free, (tried, (2, 0x41), Some((2, 0x41))));
+            let same = compared(2, Status::SUCCESSFUL_COMPLETION);
+            let still = compared(2, Status::SUCCESSFUL_COMPLETION);
+            assert_eq!(rt; free, (tried, Ok(same), Some(Ok(still))));
         }
     }
     assert!(rt; gate.was_seen());

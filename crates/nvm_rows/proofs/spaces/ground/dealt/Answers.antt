@@ -33,9 +33,9 @@ module _ (space : SpaceName) (ports middle rest : List PortState) (first second 
       (omega (arith, one, middle_length, ports_length, count, all.count), omega (arith, other, middle_length, ports_length, count, all.count))
 
 pub returns-clause-of : goal.returns-clause-of
-returns-clause-of g c =
+returns-clause-of c =
     of_space c.args.space _ _ _ c.in-Some-pop.first c.in-Some.second c.requires.count c.requires.all c.in-Some.ensures.items c.in-Some-pop.ensures.items
 
 pub returns-clause-numbers : goal.returns-clause-numbers
-returns-clause-numbers g c =
+returns-clause-numbers c =
     numbers c.args.space _ _ _ c.in-Some-pop.first c.in-Some.second c.requires.count c.requires.all c.in-Some.ensures.items c.in-Some-pop.ensures.items

@@ -23,13 +23,13 @@ two_new unit passes middle rest first second count new last before =
     popped _ _ first second rest (sym two ∙ (sym new ∙ (last ∙ ap (λ (xs : List PassState). xs ++ second ∷ []) before)))
 
 pub returns-clause-of : goal.returns-clause-of
-returns-clause-of g c =
+returns-clause-of c =
     let two = two_new c.args.unit _ _ _ c.in-Some-pop.first c.in-Some.second c.requires.count c.requires.passes c.in-Some.ensures.items c.in-Some-pop.ensures.items in (
       record { table = ap (λ (x : PassState). x.table) two.0; bounds = ap (λ (x : PassState). x.view.bounds) two.0; kept = λ keeps. sym (ap (λ (x : PassState). x.keeps) two.0) ∙ keeps },
       record { table = ap (λ (x : PassState). x.table) two.1; bounds = ap (λ (x : PassState). x.view.bounds) two.1; kept = λ keeps. sym (ap (λ (x : PassState). x.keeps) two.1) ∙ keeps },
     )
 
 pub returns-clause-numbers : goal.returns-clause-numbers
-returns-clause-numbers g c =
+returns-clause-numbers c =
     let two = two_new c.args.unit _ _ _ c.in-Some-pop.first c.in-Some.second c.requires.count c.requires.passes c.in-Some.ensures.items c.in-Some-pop.ensures.items in
     (ap (λ (x : PassState). x.view.number) two.0, ap (λ (x : PassState). x.view.number) two.1)
