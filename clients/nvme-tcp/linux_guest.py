@@ -1,5 +1,5 @@
 """Machines that QEMU emulates, or KVM runs, with Debian's kernel and busybox, for clients/check-linux. They have QEMU's own user network alone: a guest reaches this machine's loopback as
-10.0.2.2, and a port of this loopback can lead to a guest's."""
+10.0.2.2, and a port of this loopback can lead to a guest's. Or they have a tap device, where who made it is 10.0.2.2."""
 
 import contextlib
 import os
@@ -117,16 +117,17 @@ class Machine:
 
 
 @contextlib.contextmanager
-def machine(kernel, folder, script, modules, files=(), programs=(), forward=None, processors=4):
-    """A guest that begins to do the script. `forward` is a port of this machine's loopback, and one of the guest's."""
+def machine(kernel, folder, script, modules, files=(), programs=(), forward=None, tap=None, processors=4):
+    """A guest that begins to do the script. `forward` is a port of this machine's loopback, and one of the guest's; `tap` is a device of this machine that it has instead of the user network."""
     with open(f"{folder}/initramfs", "wb") as file:
         file.write(initramfs(kernel, script, modules, files, programs))
     # What another guest of this folder said isn't this one's.
     with contextlib.suppress(FileNotFoundError):
         os.remove(f"{folder}/console.txt")
     lead = f",hostfwd=tcp:127.0.0.1:{forward[0]}-:{forward[1]}" if forward else ""
+    network = f"tap,id=network,ifname={tap},script=no,downscript=no" if tap else f"user,id=network{lead}"
     words = ["qemu-system-x86_64", *(word for way in accelerators() for word in ("-accel", way)), "-M", "q35", "-cpu", "max", "-m", "1024", "-smp", str(processors)]
-    words += ["-display", "none", "-nodefaults", "-no-reboot", "-serial", f"file:{folder}/console.txt", "-netdev", f"user,id=network{lead}", "-device", "virtio-net-pci,netdev=network"]
+    words += ["-display", "none", "-nodefaults", "-no-reboot", "-serial", f"file:{folder}/console.txt", "-netdev", network, "-device", "virtio-net-pci,netdev=network"]
     words += ["-kernel", kernel.image, "-initrd", f"{folder}/initramfs", "-append", "console=ttyS0 quiet panic=-1 no_timer_check"]
     process = subprocess.Popen(["nice", "-n", "5", *words], stdin=subprocess.DEVNULL)
     try:
