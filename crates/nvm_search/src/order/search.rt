@@ -331,8 +331,8 @@ impl<'p> Search<'p> {
             };
             let turn = *turn;
             // Where no step is known to have been in the way it is the last.
-            if let Some(last) = self.conflict.iter().max() {
-                if *last as usize <= turn.steps {
+            if let Some(last) = self.conflict.iter().copied().max() {
+                if last as usize <= turn.steps {
                     self.drop_turn(turn.start);
                     continue;
                 }
