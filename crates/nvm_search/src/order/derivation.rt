@@ -148,7 +148,8 @@ impl<'p> Derivation<'p> {
         }
         let put_late = self.put_by(late);
         if put_late != NONE && put_late != put {
-            let mut finder = self.links.at(self.finder_place(early));
+            let place = self.finder_place(early);
+            let mut finder = self.links.at(place);
             for _ in 0..u64::MAX {
                 let Some(cell) = finder.checked_sub(1) else {
                     break;
@@ -158,7 +159,8 @@ impl<'p> Derivation<'p> {
                         self.order.add(node, other)?;
                     }
                 }
-                finder = self.links.at(self.other_place(cell));
+                let place = self.other_place(cell);
+                finder = self.links.at(place);
             }
         }
         let source = self.source(late);
@@ -236,7 +238,8 @@ impl<'p> Derivation<'p> {
         let from = part.act(self.acts.at(self.order.first_beside(node))).from;
         for at in done.cell..done.cells_end() {
             let block = part.cell(at).block;
-            let is_found = self.put_by(at) != NONE && self.links.at(self.finder_place(at)) != 0;
+            let finder = self.finder_place(at);
+            let is_found = self.put_by(at) != NONE && self.links.at(finder) != 0;
             if !is_found && !done.tied {
                 continue;
             }

@@ -133,8 +133,9 @@ impl Part {
         if let Gives::Slot(value) = gives {
             self.slots.add(block, value)?;
         }
+        let act = self.count();
         self.cells.push(Cell {
-            act: self.count(),
+            act,
             block,
             wants,
             gives,
@@ -206,8 +207,8 @@ impl Part {
         }
     }
 
-    /// Notes who finds and gives what.
-    fn list_all(&mut self, alloc: Global) -> Result<(), NoMemory> {
+    /// Who finds and gives what.
+    fn list_all(&self, alloc: Global) -> Result<Lists, NoMemory> {
         let mut lists = Lists::new(alloc, self.blocks, self.slots.count());
         for number in 0..self.count() {
             lists.add(&self.act(number), number)?;
@@ -217,8 +218,7 @@ impl Part {
             lists.add_cell(&self.act(cell.act), cell, deallocated)?;
         }
         lists.sort(alloc)?;
-        self.lists = lists;
-        Ok(())
+        Ok(lists)
     }
 }
 
@@ -264,6 +264,6 @@ pub fn part_of(known: &mut Known<'_, '_>, shares: &[Share]) -> Result<Part, NoMe
     }
     part.slots.sort()?;
     part.find_slots();
-    part.list_all(known.alloc)?;
+    part.lists = part.list_all(known.alloc)?;
     Ok(part)
 }

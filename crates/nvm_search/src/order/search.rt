@@ -135,8 +135,9 @@ impl<'p> Search<'p> {
         })
     }
 
-    /// Notes that a step was in the way.
-    fn blame(&mut self, step: u32) -> Result<(), NoMemory> {
+    /// Notes that the step of a field was in the way.
+    fn blame(&mut self, field: Field) -> Result<(), NoMemory> {
+        let step = self.board.at(field);
         if step != 0 {
             self.conflict.push(step)?;
         }

@@ -75,7 +75,8 @@ impl<'p> Derivation<'p> {
         }
         made.nodes = Numbers::new(alloc, part.acts.len(), 0)?;
         for node in 0..made.order.count() {
-            made.nodes.put(made.acts.at(node), node.saturating_add(1));
+            let act = made.acts.at(node);
+            made.nodes.put(act, node.saturating_add(1));
         }
         made.links = State::new(alloc, part.cells.len().saturating_mul(3))?;
         made.note_reach(alloc)?;

@@ -42,13 +42,14 @@ impl<'p> Search<'p> {
                 continue;
             }
             let is_begun = entry.time <= self.board.horizon;
-            if self.is_supplied(slot, number, finder, self.known.end(finder), 0)? {
+            let until = self.known.end(finder);
+            if self.is_supplied(slot, number, finder, until, 0)? {
                 if is_begun {
                     continue;
                 }
                 break;
             }
-            self.blame(self.board.at(Field::Setter(block)))?;
+            self.blame(Field::Setter(block))?;
             self.blame_givers(slot)?;
             if !is_begun {
                 return Ok(false);
@@ -126,7 +127,7 @@ impl<'p> Search<'p> {
                 }
                 let step = self.begun_in(entry, &part.act(tied.act));
                 if step != 0 && aims {
-                    self.blame(step)?;
+                    self.conflict.push(step)?;
                     self.aim(tied.act, NONE)?;
                 }
                 parts = parts || step != 0;

@@ -148,7 +148,7 @@ impl<'p> Search<'p> {
             let other = match cell.wants {
                 Wants::Nothing => continue,
                 Wants::Slot(slot) => {
-                    self.blame(self.board.at(Field::Loser(slot)))?;
+                    self.blame(Field::Loser(slot))?;
                     self.blame_givers(slot)?;
                     self.aim_at_slot(slot)?;
                     continue;
@@ -156,7 +156,7 @@ impl<'p> Search<'p> {
                 Wants::AnyBytes => NONE,
                 Wants::OtherThan(other) => other,
             };
-            self.blame(self.board.at(Field::Setter(cell.block)))?;
+            self.blame(Field::Setter(cell.block))?;
             self.aim_at_others(&cell, other)?;
         }
         Ok(())
@@ -213,10 +213,10 @@ impl<'p> Search<'p> {
                 continue;
             }
             if !self.can_get(&other, act)? {
-                self.blame(self.board.at(Field::Setter(part.cell(act.cell).block)))?;
-                self.blame(self.board.at(Field::Setter(part.cell(other.cell).block)))?;
+                self.blame(Field::Setter(part.cell(act.cell).block))?;
+                self.blame(Field::Setter(part.cell(other.cell).block))?;
                 if let Wants::Slot(slot) = part.cell(other.cell).wants {
-                    self.blame(self.board.at(Field::Loser(slot)))?;
+                    self.blame(Field::Loser(slot))?;
                 }
                 return Ok(false);
             }

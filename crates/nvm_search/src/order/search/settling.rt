@@ -38,8 +38,10 @@ impl<'p> Search<'p> {
     /// Does the looks that find what is in the block now.
     pub(super) fn settle_block(&mut self, block: u32) -> Result<(), NoMemory> {
         self.look_all(Group::Loose(block))?;
-        self.look_all(Group::Willing(self.board.content(block)))?;
-        self.look_all(Group::Finders(self.board.content(block)))
+        let content = self.board.content(block);
+        self.look_all(Group::Willing(content))?;
+        let content = self.board.content(block);
+        self.look_all(Group::Finders(content))
     }
 
     /// Does the act if it is a look that finds what it found, with all of its point where that is tied. Says whether it was done.
