@@ -1,8 +1,8 @@
 //! The searches for evidence of a trace's verdict: an order of its points that explains it, and a contradiction among them.
 //!
 //! `order_of` looks for the one, and `contradiction_of` for the other; both number what they compare (`numbers`). Nothing here is
-//! trusted, and no other crate but the program `nvq` stands on it: an order counts only where [`explains`](nvm_standard::explains) takes it, and a contradiction only where
-//! [`contradicts`](nvm_standard::contradicts) does.
+//! trusted, and no library stands on it: an order counts only where [`explains`](nvm_standard::explains) takes it, and a contradiction
+//! only where [`contradicts`](nvm_standard::contradicts) does.
 #![tactic(auto)]
 
 mod contradiction;

@@ -4,16 +4,17 @@
 //! them. Moves that look right are tried first, and where they lead to no order every one.
 
 mod acts;
+mod board;
 mod derivation;
 mod lists;
 mod making;
 mod merging;
 mod parts;
 mod precedence;
-mod ranks;
 mod search;
 mod slots;
 mod state;
 mod together;
+mod trying;
 
 pub use merging::order_of;

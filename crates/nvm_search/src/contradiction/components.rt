@@ -2,23 +2,17 @@ use crate::contradiction::history::History;
 use crate::numbers::to_u32;
 use nvm_record::NoMemory;
 use nvm_standard::{Node, Point, Presence};
-use std::alloc::Global;
 
 /// A node, in its component. They are ordered by component and by when they began.
+///
+/// Components have nothing to do with each other: no point is done at one moment in blocks of two, none is tied there, and none is done
+/// in one of both.
 #[derive(Clone, Copy, PartialEq, Eq, PartialOrd, Ord)]
-struct Placed {
-    component: u32,
+pub struct Placed {
+    pub component: u32,
     from: u64,
     point: u32,
     block: u32,
-}
-
-/// The nodes of a table in components that have nothing to do with each other: no point is done at one moment in blocks of two, none
-/// is tied there, and none is done in one of both.
-#[derive(Drop)]
-pub struct Components {
-    placed: Vec<Placed>,
-    count: u32,
 }
 
 /// Whether the blocks of the point have to do with each other.
@@ -30,91 +24,75 @@ fn joins(point: &Point<'_>) -> bool {
 }
 
 /// For each of the blocks in which something was found the number of its component.
-fn numbers_of(alloc: Global, history: &History<'_, '_>) -> Result<Vec<u32>, NoMemory> {
-    // How many more points join a block to the one after it than did the block before.
-    let mut joining = vec![in alloc; 0i64; history.blocks.len().saturating_add(1)]?;
+fn numbers_of(history: &History<'_>) -> Result<Vec<u32>, NoMemory> {
+    let blocks = history.blocks.len();
+    // For each the end of the blocks that points which begin there join to it.
+    let mut ends = vec![in history.alloc; 0usize; blocks]?;
     for point in &history.table.points {
-        if !joins(point) {
-            continue;
-        }
-        let (from, to) = history.found_among(point);
-        if to.saturating_sub(from) < 2 {
-            continue;
-        }
-        if let Some(first) = joining.get_mut(from) {
-            *first = first.saturating_add(1);
-        }
-        if let Some(last) = joining.get_mut(to.saturating_sub(1)) {
-            *last = last.saturating_sub(1);
+        let (from, to) = history.places(point.first, point.blocks);
+        match ends.get_mut(from) {
+            Some(end) if joins(point) => *end = to.max(*end),
+            _ => {}
         }
     }
-    let mut numbers = Vec::with_capacity(alloc, history.blocks.len())?;
+    let mut numbers = Vec::with_capacity(history.alloc, blocks)?;
     let mut number = 0u32;
-    let mut joined = 0i64;
-    for at in 0..history.blocks.len() {
-        numbers.push(number)?;
-        if let Some(more) = joining.get(at) {
-            joined = joined.saturating_add(*more);
-        }
-        if joined <= 0 {
+    let mut last = 0;
+    for (at, end) in ends.iter().enumerate() {
+        if at >= last {
             number = number.saturating_add(1);
         }
+        last = last.max(*end);
+        numbers.push(number)?;
     }
     Ok(numbers)
 }
 
-impl Components {
-    pub fn new(alloc: Global, history: &History<'_, '_>) -> Result<Components, NoMemory> {
-        let numbers = numbers_of(alloc, history)?;
-        let mut placed = Vec::new(alloc);
-        for (number, point) in history.table.points.iter().enumerate() {
-            if history.is_wild(point) {
-                continue;
-            }
-            let (from, to) = history.found_among(point);
-            for at in from..to {
-                let (Some(block), Some(component)) = (history.blocks.get(at), numbers.get(at))
-                else {
-                    break;
-                };
-                let node = history.node(to_u32(number), *block);
-                placed.push(Placed {
-                    component: *component,
-                    from: point.from,
-                    point: node.point,
-                    block: node.block,
-                })?;
-                if !point.each {
-                    break;
-                }
-            }
+/// The nodes of the table, by component. These have numbers from 1 on.
+pub fn placed_nodes(history: &History<'_>) -> Result<Vec<Placed>, NoMemory> {
+    let numbers = numbers_of(history)?;
+    let mut placed = Vec::new(history.alloc);
+    for (number, point) in history.table.points.iter().enumerate() {
+        if history.is_wild(point) {
+            continue;
         }
-        placed.sort_unstable();
-        let count = match numbers.last() {
-            Some(last) => last.saturating_add(1),
-            None => 0,
-        };
-        Ok(Components { placed, count })
-    }
-
-    /// How many components there are.
-    pub fn len(&self) -> u32 {
-        self.count
-    }
-
-    /// The nodes of the component of this number, by when they began.
-    pub fn nodes(&self, alloc: Global, number: u32) -> Result<Vec<Node>, NoMemory> {
-        let from = self.placed.partition_point(|it| it.component < number);
-        let to = self.placed.partition_point(|it| it.component <= number);
-        let mut nodes = Vec::with_capacity(alloc, to.saturating_sub(from))?;
+        let (from, to) = history.places(point.first, point.blocks);
         for at in from..to {
-            if let Some(it) = self.placed.get(at) {
-                nodes.push(Node {
-                    point: it.point,
-                    block: it.block,
-                })?;
+            let (Some(block), Some(component)) = (history.blocks.get(at), numbers.get(at)) else {
+                break;
+            };
+            let node = history.node(to_u32(number), *block);
+            placed.push(Placed {
+                component: *component,
+                from: point.from,
+                point: node.point,
+                block: node.block,
+            })?;
+            if !point.each {
+                break;
             }
         }
-        Ok(nodes)
     }
+    placed.sort_unstable();
+    Ok(placed)
+}
+
+/// Those of the component of this number.
+pub fn nodes_of(
+    history: &History<'_>,
+    placed: &Vec<Placed>,
+    component: u32,
+) -> Result<Vec<Node>, NoMemory> {
+    let from = placed.partition_point(|it| it.component < component);
+    let to = placed.partition_point(|it| it.component <= component);
+    let mut nodes = Vec::with_capacity(history.alloc, to.saturating_sub(from))?;
+    for at in from..to {
+        if let Some(it) = placed.get(at) {
+            nodes.push(Node {
+                point: it.point,
+                block: it.block,
+            })?;
+        }
+    }
+    Ok(nodes)
 }

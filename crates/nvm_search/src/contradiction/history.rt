@@ -1,8 +1,8 @@
 use crate::contradiction::blocks_found::{MOST_WIDE, blocks_found};
-use crate::contradiction::contents::Contents;
-use crate::contradiction::sought::{ANYTHING, Sought};
-use crate::contradiction::sure_writers::SureWriters;
-use crate::contradiction::writers::{Asked, Run, Writer, Writers};
+use crate::contradiction::contents::{ANYTHING, Contents, Sought};
+use crate::contradiction::writers::{
+    Asked, SureWriter, Writer, last_sure, put_asked, run, settle, settle_sure,
+};
 use crate::numbers::{MARK, ZERO, to_u32};
 use nvm_record::NoMemory;
 use nvm_standard::{Deallocated, Found, Node, Point, Points, Presence, Put};
@@ -12,42 +12,65 @@ use std::alloc::Global;
 /// A point that may put anything is looked at in each of its blocks where it has at most so many in which something was found.
 const MOST_TAME: usize = 64;
 
+/// So many writers of a run are gone through at most to find some by their times.
+const LOOKED: usize = 4_096;
+
+/// The key of the runs of all that can have put something in a block.
+const EVERY: u32 = u32::MAX - 1;
+
+/// Where those are listed that may put anything in very many blocks. No trace has this block.
+const NOWHERE: u32 = u32::MAX;
+
 /// Who can have put what in the blocks in which something was found, and who surely put something there.
 #[derive(Drop)]
-pub struct History<'a, 't> {
-    pub table: &'a Points<'t>,
+pub struct History<'a> {
+    pub alloc: Global,
+    pub table: &'a Points<'a>,
+    /// What stands for a point that the table doesn't have.
+    none: Point<'a>,
     contents: Contents,
     /// The blocks in which something was found, rising.
     pub blocks: Vec<u32>,
-    /// Who can have put what there, by block and value.
-    by_value: Writers,
-    /// The same by block alone.
-    by_block: Writers,
-    /// Those that may put anything in very many blocks.
-    wild: Writers,
-    sure: SureWriters,
+    /// Who can have put what there, by block and value, and once more by block alone.
+    writers: Vec<Writer>,
+    sure: Vec<SureWriter>,
 }
 
-/// When the point was over, for one that surely put the block later.
-fn over_of(point: &Point<'_>) -> u64 {
-    let over = match point.put {
-        Put::Deallocated => point.over,
-        _ => point.until,
+/// Whether the point surely puts the block.
+pub fn is_sure(point: &Point<'_>, block: u32) -> bool {
+    let puts = match point.put {
+        Put::Bytes(_) | Put::Zeroes | Put::Mark => true,
+        Put::Nothing | Put::Deallocated | Put::Anything => false,
     };
-    over.unwrap_or(u64::MAX)
+    puts && point.presence == Presence::Sure
+        && block >= point.first
+        && block - point.first < point.blocks
 }
 
-impl<'a, 't> History<'a, 't> {
+impl<'a> History<'a> {
     /// The history of the table's points, or none where commands without data meet too many blocks.
-    pub fn new(alloc: Global, table: &'a Points<'t>) -> Result<Option<History<'a, 't>>, NoMemory> {
+    pub fn new(alloc: Global, table: &'a Points<'a>) -> Result<Option<History<'a>>, NoMemory> {
         let mut history = History {
+            alloc,
             table,
+            none: Point {
+                command: 0,
+                first: 0,
+                blocks: 0,
+                each: true,
+                found: Found::Nothing,
+                put: Put::Nothing,
+                presence: Presence::Optional,
+                after: false,
+                tied: false,
+                from: 0,
+                until: None,
+                over: None,
+            },
             contents: Contents::new(alloc, table)?,
             blocks: blocks_found(alloc, &table.points)?,
-            by_value: Writers::new(alloc),
-            by_block: Writers::new(alloc),
-            wild: Writers::new(alloc),
-            sure: SureWriters::new(alloc),
+            writers: Vec::new(alloc),
+            sure: Vec::new(alloc),
         };
         let mut wide = 0usize;
         for (number, point) in table.points.iter().enumerate() {
@@ -56,33 +79,57 @@ impl<'a, 't> History<'a, 't> {
                 return Ok(None);
             }
         }
-        history.by_value.settle(true);
-        history.by_block.settle(false);
-        history.wild.settle(false);
-        history.sure.settle();
+        settle(&mut history.writers);
+        settle_sure(&mut history.sure);
         Ok(Some(history))
     }
 
     /// Lists what the point can have put, and says in how many blocks if it has no data of its own.
     fn put_writer(&mut self, number: u32, point: &Point<'_>) -> Result<usize, NoMemory> {
-        let writer = Writer {
-            block: 0,
+        let over = match point.put {
+            Put::Deallocated => point.over,
+            _ => point.until,
+        };
+        let until = over.unwrap_or(u64::MAX);
+        let anything = Writer {
+            block: NOWHERE,
+            key: ANYTHING,
             value: ANYTHING,
-            from: point.from,
-            until: over_of(point),
             point: number,
+            from: point.from,
+            until,
+            reach: until,
         };
         if self.is_wild(point) {
-            self.wild.put(writer)?;
+            self.writers.push(anything)?;
             return Ok(0);
         }
-        let (from, to) = self.found_among(point);
+        let (from, to) = self.places(point.first, point.blocks);
         for at in from..to {
             let Some(block) = self.blocks.get(at) else {
                 break;
             };
             let block = *block;
-            self.put_at(Writer { block, ..writer })?;
+            for value in self.values_put(number, point, block) {
+                if let Some(value) = value {
+                    for key in [value, EVERY] {
+                        self.writers.push(Writer {
+                            block,
+                            key,
+                            value,
+                            ..anything
+                        })?;
+                    }
+                }
+            }
+            if is_sure(point, block) {
+                self.sure.push(SureWriter {
+                    block,
+                    until,
+                    from: point.from,
+                    point: number,
+                })?;
+            }
         }
         Ok(match point.put {
             Put::Nothing | Put::Bytes(_) => 0,
@@ -90,169 +137,111 @@ impl<'a, 't> History<'a, 't> {
         })
     }
 
-    /// Whether the point may put anything in so many blocks that it isn't looked at in each.
-    pub fn is_wild(&self, point: &Point<'_>) -> bool {
-        let (from, to) = self.found_among(point);
-        match point.put {
-            Put::Anything => to.saturating_sub(from) > MOST_TAME,
-            _ => false,
-        }
-    }
-
-    /// Lists what the writer's point can have put in its block.
-    fn put_at(&mut self, writer: Writer) -> Result<(), NoMemory> {
-        for value in self.values_put(writer.point, writer.block) {
-            if let Some(value) = value {
-                let writer = Writer { value, ..writer };
-                self.by_value.put(writer)?;
-                self.by_block.put(writer)?;
-            }
-        }
-        if self.is_sure(writer.point, writer.block) {
-            self.sure.put(writer)?;
-        }
-        Ok(())
-    }
-
     /// What the point can have put in the block.
-    fn values_put(&self, number: u32, block: u32) -> [Option<u32>; 2] {
-        let Some(point) = self.point(number) else {
-            return [None, None];
-        };
+    fn values_put(&self, number: u32, point: &Point<'_>, block: u32) -> [Option<u32>; 2] {
+        let ones = self.contents.ones;
         match point.put {
             Put::Nothing => [None, None],
             Put::Anything => [Some(ANYTHING), None],
             Put::Bytes(_) => {
                 let place = block.saturating_sub(point.first);
-                [self.contents.put(number, place), None]
+                [Some(self.contents.put(number, place)), None]
             }
             Put::Zeroes => [Some(ZERO), None],
             Put::Mark => [Some(MARK), None],
             Put::Deallocated => match self.table.deallocated {
                 Deallocated::Zeroes => [Some(ZERO), None],
-                Deallocated::Ones => [Some(self.contents.ones), None],
-                Deallocated::Either => [Some(ZERO), Some(self.contents.ones)],
+                Deallocated::Ones => [Some(ones), None],
+                Deallocated::Either => [Some(ZERO), Some(ones)],
             },
         }
     }
 
-    pub fn point(&self, number: u32) -> Option<&Point<'t>> {
-        self.table.points.get(number as usize)
+    pub fn point(&self, number: u32) -> &Point<'a> {
+        self.table.points.get(number as usize).unwrap_or(&self.none)
     }
 
     /// The point's node at the block.
     pub fn node(&self, number: u32, block: u32) -> Node {
-        match self.point(number) {
-            Some(point) if !point.each => Node {
-                point: number,
-                block: point.first,
-            },
-            _ => Node {
-                point: number,
-                block,
-            },
-        }
-    }
-
-    /// The number of the point's command.
-    pub fn command(&self, number: u32) -> u32 {
-        match self.point(number) {
-            Some(point) => point.command,
-            None => 0,
-        }
-    }
-
-    /// When the point's command began.
-    pub fn from(&self, number: u32) -> u64 {
-        match self.point(number) {
-            Some(point) => point.from,
-            None => 0,
+        let point = self.point(number);
+        Node {
+            point: number,
+            block: if point.each { block } else { point.first },
         }
     }
 
     /// When the point's time was over, and the end of time if it never was.
     pub fn until(&self, number: u32) -> u64 {
-        match self.point(number) {
-            Some(point) => point.until.unwrap_or(u64::MAX),
-            None => u64::MAX,
-        }
+        self.point(number).until.unwrap_or(u64::MAX)
     }
 
     /// Whether the point is surely done, in each of its blocks.
     pub fn is_there(&self, number: u32) -> bool {
-        match self.point(number) {
-            Some(point) => match point.presence {
-                Presence::Sure => true,
-                Presence::OneOf => point.blocks == 1,
-                Presence::Optional | Presence::Together | Presence::Repeated => false,
-            },
-            None => false,
+        let point = self.point(number);
+        match point.presence {
+            Presence::Sure => true,
+            Presence::OneOf => point.blocks == 1,
+            Presence::Optional | Presence::Together | Presence::Repeated => false,
         }
     }
 
-    /// Whether the point may be done more than once.
-    pub fn may_repeat(&self, number: u32) -> bool {
-        match self.point(number) {
-            Some(point) => point.presence == Presence::Repeated,
-            None => false,
-        }
-    }
-
-    /// Whether the point surely puts the block.
-    pub fn is_sure(&self, number: u32, block: u32) -> bool {
-        let Some(point) = self.point(number) else {
-            return false;
-        };
-        let puts = match point.put {
-            Put::Bytes(_) | Put::Zeroes | Put::Mark => true,
-            Put::Nothing | Put::Deallocated | Put::Anything => false,
-        };
-        puts && point.presence == Presence::Sure
-            && block >= point.first
-            && block - point.first < point.blocks
-    }
-
-    /// Which of the blocks in which something was found are the point's, by their places: from one up to another.
-    pub fn found_among(&self, point: &Point<'_>) -> (usize, usize) {
-        let end = point.first.saturating_add(point.blocks);
-        let from = self.blocks.partition_point(|block| *block < point.first);
+    /// The places of those of the blocks in which something was found that are among so many from the first on: from one up to another.
+    pub fn places(&self, first: u32, blocks: u32) -> (usize, usize) {
+        let end = first.saturating_add(blocks);
+        let from = self.blocks.partition_point(|block| *block < first);
         let to = self.blocks.partition_point(|block| *block < end);
         (from, to)
     }
 
-    /// Which of them are of the point's node at the block.
-    pub fn found_at(&self, number: u32, block: u32) -> (usize, usize) {
-        match self.point(number) {
-            Some(point) if !point.each => self.found_among(point),
-            _ => match self.blocks.binary_search(&block) {
-                Ok(at) => (at, at.saturating_add(1)),
-                Err(at) => (at, at),
-            },
+    /// Those of the blocks in which something was found that are the point's.
+    pub fn found_among(&self, point: &Point<'_>) -> &[u32] {
+        let (from, to) = self.places(point.first, point.blocks);
+        match self.blocks.get(from..to) {
+            Some(blocks) => blocks,
+            None => &[],
+        }
+    }
+
+    /// Those that are of the node.
+    pub fn found_at(&self, node: Node) -> &[u32] {
+        let point = self.point(node.point);
+        if !point.each {
+            return self.found_among(point);
+        }
+        let (from, to) = self.places(node.block, 1);
+        match self.blocks.get(from..to) {
+            Some(blocks) => blocks,
+            None => &[],
+        }
+    }
+
+    /// Whether the point may put anything in so many blocks that it isn't looked at in each.
+    pub fn is_wild(&self, point: &Point<'_>) -> bool {
+        match point.put {
+            Put::Anything => self.found_among(point).len() > MOST_TAME,
+            _ => false,
         }
     }
 
     /// What the point found in the block if it was there, as far as it is known.
     pub fn sought(&self, number: u32, block: u32) -> Option<Sought> {
-        let point = self.point(number)?;
+        let point = self.point(number);
         let place = block.checked_sub(point.first)?;
         if place >= point.blocks {
             return None;
         }
+        let value = self.contents.found(number, place);
         match (point.found, point.presence) {
-            (Found::Bytes(_), Presence::Sure | Presence::Together) => {
-                Some(Sought::Value(self.contents.found(number, place)?))
-            }
+            (Found::Bytes(_), Presence::Sure | Presence::Together) => Some(Sought::Value(value)),
             (Found::AnyBytes, Presence::Sure) => Some(Sought::Bytes),
-            (Found::OtherThan(_), _) => {
-                Some(Sought::OtherThan(self.contents.found(number, place)?))
-            }
+            (Found::OtherThan(_), _) => Some(Sought::OtherThan(value)),
             _ => None,
         }
     }
 
-    /// Of the points that surely put the block and were over before the time, the one that began last.
-    pub fn last_sure(&self, block: u32, time: u64) -> Option<u32> {
-        self.sure.last(block, time)
+    /// Of the points that surely put the block and were over before the reader began, the one that began last.
+    pub fn last_sure(&self, reader: u32, block: u32) -> Option<u32> {
+        last_sure(&self.sure, block, self.point(reader).from)
     }
 
     /// Whether what was found can't have been there at first, whatever was put.
@@ -265,29 +254,41 @@ impl<'a, 't> History<'a, 't> {
 
     /// Whether what the reader found in the block can have been there at first, by the times.
     pub fn may_be_first(&self, reader: u32, block: u32, sought: Sought) -> bool {
-        !self.is_never_first(sought) && self.last_sure(block, self.from(reader)).is_none()
+        !self.is_never_first(sought) && self.last_sure(reader, block).is_none()
     }
 
-    /// Those who can have put what was found in the block, among others, and those that may have put anything there.
-    fn writers_of(&self, block: u32, sought: Sought) -> (&Writers, [Run; 2]) {
-        let anything = self.by_value.of_value(block, ANYTHING);
-        match sought {
-            Sought::Value(value) => {
-                let run = self.by_value.of_value(block, value);
-                (&self.by_value, [run, anything])
-            }
-            Sought::Bytes | Sought::OtherThan(_) => {
-                let none = Run { from: 0, to: 0 };
-                (&self.by_block, [self.by_block.of_block(block), none])
-            }
+    /// The points that are asked for in the block, where of those that may put anything in very many blocks there are at most `most_wild`.
+    fn asked(
+        &self,
+        block: u32,
+        asked: Asked,
+        most_wild: usize,
+    ) -> Result<Option<Vec<u32>>, NoMemory> {
+        let wild = Asked {
+            most: most_wild,
+            ..asked
+        };
+        let mut servers = Vec::new(self.alloc);
+        let is_all = put_asked(&mut servers, run(&self.writers, NOWHERE, ANYTHING), wild)?
+            && match asked.sought {
+                Sought::Value(value) => {
+                    put_asked(&mut servers, run(&self.writers, block, value), asked)?
+                        && put_asked(&mut servers, run(&self.writers, block, ANYTHING), asked)?
+                }
+                _ => put_asked(&mut servers, run(&self.writers, block, EVERY), asked)?,
+            };
+        if !is_all {
+            return Ok(None);
         }
+        servers.sort_unstable();
+        servers.dedup();
+        Ok(Some(servers))
     }
 
     /// The other points that can have put what was found, by the times, and none where they are more than `most`, or one of them may put
     /// anything in very many blocks.
     pub fn servers(
         &self,
-        alloc: Global,
         reader: u32,
         block: u32,
         sought: Sought,
@@ -297,68 +298,51 @@ impl<'a, 't> History<'a, 't> {
             reader,
             sought,
             by: self.until(reader),
-            least: match self.last_sure(block, self.from(reader)) {
-                Some(writer) => self.from(writer),
+            least: match self.last_sure(reader, block) {
+                Some(writer) => self.point(writer).from,
                 None => 0,
             },
+            most,
+            looked: LOOKED,
         };
-        let mut servers = Vec::new(alloc);
-        let is_tame = self
-            .wild
-            .put_asked(&mut servers, self.wild.all(), asked, 0)?;
-        let (writers, runs) = self.writers_of(block, sought);
-        for run in runs {
-            if !is_tame || !writers.put_asked(&mut servers, run, asked, most)? {
-                return Ok(None);
-            }
-        }
-        servers.sort_unstable();
-        servers.dedup();
-        Ok(Some(servers))
+        self.asked(block, asked, 0)
     }
 
     /// All other points that can have put what was found, whatever the times.
     pub fn all_servers(
         &self,
-        alloc: Global,
         reader: u32,
         block: u32,
         sought: Sought,
     ) -> Result<Vec<u32>, NoMemory> {
-        let mut servers = Vec::new(alloc);
-        let (writers, runs) = self.writers_of(block, sought);
-        for run in runs {
-            writers.put_all(&mut servers, run, reader, sought)?;
-        }
-        self.wild
-            .put_all(&mut servers, self.wild.all(), reader, sought)?;
-        servers.sort_unstable();
-        servers.dedup();
-        Ok(servers)
+        let asked = Asked {
+            reader,
+            sought,
+            by: u64::MAX,
+            least: 0,
+            most: usize::MAX,
+            looked: usize::MAX,
+        };
+        let servers = self.asked(block, asked, usize::MAX)?;
+        Ok(servers.unwrap_or(Vec::new(self.alloc)))
     }
 
-    /// How many points, at most, can have put what the point found in the block, whatever the times.
-    pub fn count_servers(&self, number: u32, block: u32) -> usize {
-        let Some(sought) = self.sought(number, block) else {
-            return 0;
-        };
-        let (_, [run, anything]) = self.writers_of(block, sought);
-        run.to
-            .saturating_sub(run.from)
-            .saturating_add(anything.to.saturating_sub(anything.from))
+    /// How many points, at most, can have put what was found in the block, whatever the times, beside those that may put anything in very
+    /// many.
+    pub fn count_servers(&self, block: u32, sought: Sought) -> usize {
+        match sought {
+            Sought::Value(value) => run(&self.writers, block, value)
+                .len()
+                .saturating_add(run(&self.writers, block, ANYTHING).len()),
+            _ => run(&self.writers, block, EVERY).len(),
+        }
     }
 
     /// Whether nobody can have put what the point found in the block, by the times alone.
-    pub fn is_unserved(&self, alloc: Global, number: u32, block: u32) -> Result<bool, NoMemory> {
-        let Some(sought) = self.sought(number, block) else {
-            return Ok(false);
-        };
-        if self.may_be_first(number, block, sought) {
-            return Ok(false);
-        }
-        Ok(match self.servers(alloc, number, block, sought, 1)? {
-            Some(servers) => servers.is_empty(),
-            None => false,
-        })
+    pub fn is_unserved(&self, number: u32, block: u32, sought: Sought) -> Result<bool, NoMemory> {
+        Ok(
+            !self.may_be_first(number, block, sought)
+                && self.servers(number, block, sought, 0)?.is_some(),
+        )
     }
 }

@@ -1,7 +1,6 @@
 use crate::contradiction::history::History;
 use nvm_record::NoMemory;
 use nvm_standard::{Conclusion, Contradiction, Fact, Node};
-use std::alloc::Global;
 
 /// So few commands a contradiction has that none with fewer is looked for.
 const FEW: usize = 3;
@@ -16,12 +15,12 @@ pub struct Named {
     pub commands: Vec<u32>,
 }
 
-/// Puts the nodes that the fact names at the end.
-fn put_named(nodes: &mut Vec<Node>, history: &History<'_, '_>, fact: Fact) -> Result<(), NoMemory> {
-    match fact {
+/// Puts the nodes that the fact names at the end, one of them maybe twice.
+pub fn put_named(nodes: &mut Vec<Node>, history: &History<'_>, fact: Fact) -> Result<(), NoMemory> {
+    let named = match fact {
         Fact::Time { earlier, later } => {
-            nodes.push(earlier)?;
-            nodes.push(later)?;
+            let later = (later.point, later.block);
+            [(earlier.point, earlier.block), later, later]
         }
         Fact::Deallocate {
             deallocate: one,
@@ -37,13 +36,13 @@ fn put_named(nodes: &mut Vec<Node>, history: &History<'_, '_>, fact: Fact) -> Re
             reader: one,
             writer: other,
             block,
-        } => {
-            nodes.push(history.node(one, block))?;
-            nodes.push(history.node(other, block))?;
-        }
+        } => [(one, block), (other, block), (other, block)],
         Fact::Own { later, block } => {
-            nodes.push(history.node(later.saturating_sub(1), block))?;
-            nodes.push(history.node(later, block))?;
+            [
+                (later.saturating_sub(1), block),
+                (later, block),
+                (later, block),
+            ]
         }
         Fact::Over {
             reader,
@@ -56,12 +55,8 @@ fn put_named(nodes: &mut Vec<Node>, history: &History<'_, '_>, fact: Fact) -> Re
             source,
             block,
             reader,
-        } => {
-            nodes.push(history.node(reader, block))?;
-            nodes.push(history.node(writer, block))?;
-            nodes.push(history.node(source, block))?;
-        }
-        Fact::AtFirst { reader, block } => nodes.push(history.node(reader, block))?,
+        } => [(reader, block), (writer, block), (source, block)],
+        Fact::AtFirst { reader, block } => [(reader, block), (reader, block), (reader, block)],
         Fact::TiedBefore {
             reader,
             block,
@@ -73,54 +68,43 @@ fn put_named(nodes: &mut Vec<Node>, history: &History<'_, '_>, fact: Fact) -> Re
             reader,
             block,
             by,
-        } => {
-            nodes.push(history.node(reader, block))?;
-            nodes.push(history.node(reader, by))?;
-            nodes.push(history.node(entry, block))?;
-        }
-    }
-    Ok(())
-}
-
-/// Puts the nodes that the conclusion names at the end.
-fn put_concluded(
-    nodes: &mut Vec<Node>,
-    history: &History<'_, '_>,
-    conclusion: Conclusion,
-) -> Result<(), NoMemory> {
-    match conclusion {
-        Conclusion::Loop => {}
-        Conclusion::Nobody { reader, block } => nodes.push(history.node(reader, block))?,
-        Conclusion::Nowhere { reader } => {
-            if let Some(point) = history.point(reader) {
-                for place in 0..point.blocks {
-                    nodes.push(history.node(reader, point.first.saturating_add(place)))?;
-                }
-            }
-        }
+        } => [(reader, block), (reader, by), (entry, block)],
+    };
+    for (point, block) in named {
+        nodes.push(history.node(point, block))?;
     }
     Ok(())
 }
 
 impl Named {
+    /// The contradiction, which speaks of those nodes, too.
     pub fn of(
-        alloc: Global,
-        history: &History<'_, '_>,
+        history: &History<'_>,
         contradiction: Contradiction,
-        others: &Vec<Node>,
+        others: Vec<Node>,
     ) -> Result<Named, NoMemory> {
+        let alloc = history.alloc;
         let mut nodes = Vec::new(alloc);
         for fact in &contradiction.facts {
             put_named(&mut nodes, history, *fact)?;
         }
-        put_concluded(&mut nodes, history, contradiction.conclusion)?;
+        match contradiction.conclusion {
+            Conclusion::Loop => {}
+            Conclusion::Nobody { reader, block } => nodes.push(history.node(reader, block))?,
+            Conclusion::Nowhere { reader } => {
+                let point = history.point(reader);
+                for place in 0..point.blocks {
+                    nodes.push(history.node(reader, point.first.saturating_add(place)))?;
+                }
+            }
+        }
         let mut commands = Vec::new(alloc);
         for node in &nodes {
-            commands.push(history.command(node.point))?;
+            commands.push(history.point(node.point).command)?;
         }
         commands.sort_unstable();
         commands.dedup();
-        nodes.extend_from_slice(others)?;
+        nodes.extend_from_slice(&others)?;
         nodes.sort_unstable_by_key(|node| (node.point, node.block));
         nodes.dedup();
         Ok(Named {
@@ -130,14 +114,32 @@ impl Named {
         })
     }
 
-    /// Whether it has so few commands that none with fewer is looked for.
-    pub fn is_short(&self) -> bool {
-        self.commands.len() <= FEW
-    }
-
     /// Whether it is shorter: it has fewer commands, or as many and fewer facts.
     pub fn is_shorter(&self, other: &Named) -> bool {
         (self.commands.len(), self.contradiction.facts.len())
             < (other.commands.len(), other.contradiction.facts.len())
+    }
+}
+
+/// Whether it has so few commands that none with fewer is looked for.
+pub fn is_short(found: &Option<Named>) -> bool {
+    match found {
+        Some(named) => named.commands.len() <= FEW,
+        None => false,
+    }
+}
+
+/// The shorter of two, as far as they are there.
+pub fn shorter(one: Option<Named>, other: Option<Named>) -> Option<Named> {
+    match (one, other) {
+        (Some(one), Some(other)) => {
+            if other.is_shorter(&one) {
+                Some(other)
+            } else {
+                Some(one)
+            }
+        }
+        (Some(one), None) => Some(one),
+        (None, other) => other,
     }
 }

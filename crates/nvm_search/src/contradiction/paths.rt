@@ -1,12 +1,9 @@
 use crate::contradiction::derivation::Derivation;
-use crate::contradiction::history::History;
-use crate::contradiction::settling::Condition;
-use crate::contradiction::window::Window;
 use nvm_record::NoMemory;
 use std::alloc::Global;
 
 /// That one node of a window comes before another: by the times, or as it was derived.
-#[derive(Clone, Copy, PartialEq, Eq)]
+#[derive(Clone, Copy)]
 pub struct Link {
     pub earlier: usize,
     pub later: usize,
@@ -54,36 +51,16 @@ impl Reached {
     }
 }
 
-/// Whether a path may go on from the node by the first of what was derived: it has to be there.
-fn goes_on(
-    history: &History<'_, '_>,
-    window: &Window,
-    derivation: &Derivation,
-    first: usize,
-    place: usize,
-) -> bool {
-    match (window.members.get(place), derivation.there.get(place)) {
-        (Some(member), Some(there)) => match there {
-            Some(index) if *index < first => true,
-            _ => history.is_there(member.point),
-        },
-        _ => false,
-    }
-}
-
-/// The fewest links by which the condition is kept, the first of what was derived among them alone.
+/// The fewest links by which the one comes before the other, the first of what was derived among them alone, over nodes that are there by
+/// these.
 pub fn path(
-    alloc: Global,
-    history: &History<'_, '_>,
-    window: &Window,
-    derivation: &Derivation,
+    derivation: &Derivation<'_>,
     first: usize,
-    condition: Condition,
+    from: usize,
+    to: usize,
 ) -> Result<Option<Vec<Link>>, NoMemory> {
-    let Condition {
-        earlier: from,
-        later: to,
-    } = condition;
+    let window = derivation.window;
+    let alloc = window.history.alloc;
     let places = window.members.len();
     let mut reached = Reached {
         by: vec![in alloc; None; places]?,
@@ -98,51 +75,39 @@ pub fn path(
                 None => break,
             },
         };
-        if turn > 0 && !goes_on(history, window, derivation, first, earlier) {
+        if turn > 0 && derivation.there(earlier) > first {
             continue;
         }
-        let next = match window.next.get(earlier) {
-            Some(next) => *next,
-            None => places,
+        let (Some(next), Some(leaving)) = (
+            window.next.get(earlier),
+            derivation.leaving.get(earlier),
+        ) else {
+            break;
         };
-        for later in next..least {
+        for later in *next..least {
             reached.put(Link {
                 earlier,
                 later,
                 derived: None,
             })?;
         }
-        least = least.min(next);
-        put_derived(&mut reached, derivation, first, earlier)?;
+        least = least.min(*next);
+        for index in leaving {
+            if *index >= first {
+                break;
+            }
+            if let Some(derived) = derivation.derived.get(*index) {
+                reached.put(Link {
+                    earlier,
+                    later: derived.later,
+                    derived: Some(*index),
+                })?;
+            }
+        }
         match reached.by.get(to) {
             Some(Some(_)) => break,
             _ => {}
         }
     }
     reached.path(alloc, from, to)
-}
-
-/// Notes where the node leads by the first of what was derived.
-fn put_derived(
-    reached: &mut Reached,
-    derivation: &Derivation,
-    first: usize,
-    earlier: usize,
-) -> Result<(), NoMemory> {
-    let Some(leaving) = derivation.leaving.get(earlier) else {
-        return Ok(());
-    };
-    for index in leaving {
-        if *index >= first {
-            break;
-        }
-        if let Some(derived) = derivation.derived.get(*index) {
-            reached.put(Link {
-                earlier,
-                later: derived.later,
-                derived: Some(*index),
-            })?;
-        }
-    }
-    Ok(())
 }

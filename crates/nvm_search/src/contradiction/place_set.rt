@@ -12,13 +12,16 @@ fn bit_of(place: usize) -> u64 {
     1 << (place % 64)
 }
 
-/// The bits of `places` places, the first of a word.
-fn first_bits(places: usize) -> u64 {
-    if places < 64 {
-        (1u64 << places).wrapping_sub(1)
-    } else {
-        u64::MAX
+/// The places of a word's bits, of which the first has this place, at the end.
+fn put_places(places: &mut Vec<usize>, first: usize, word: u64) -> Result<(), NoMemory> {
+    if word != 0 {
+        for bit in 0..64 {
+            if (word >> bit) & 1 == 1 {
+                places.push(first.saturating_add(bit))?;
+            }
+        }
     }
+    Ok(())
 }
 
 impl PlaceSet {
@@ -26,16 +29,6 @@ impl PlaceSet {
     pub fn new(alloc: Global, places: usize) -> Result<PlaceSet, NoMemory> {
         let words = vec![in alloc; 0; places / 64 + 1]?;
         Ok(PlaceSet { words })
-    }
-
-    /// The places from the one up to the other, which isn't one of them.
-    pub fn range(alloc: Global, from: usize, to: usize) -> Result<PlaceSet, NoMemory> {
-        let mut set = PlaceSet::new(alloc, to)?;
-        for (index, word) in set.words.iter_mut().enumerate() {
-            let first = index.saturating_mul(64);
-            *word = first_bits(to.saturating_sub(first)) & !first_bits(from.saturating_sub(first));
-        }
-        Ok(set)
     }
 
     /// The same places.
@@ -59,13 +52,6 @@ impl PlaceSet {
         }
     }
 
-    /// Takes the place out.
-    pub fn take_out(&mut self, place: usize) {
-        if let Some(word) = self.words.get_mut(place / 64) {
-            *word &= !bit_of(place);
-        }
-    }
-
     /// Adds the other's places.
     pub fn add(&mut self, other: &PlaceSet) {
         for (word, more) in self.words.iter_mut().zip(&other.words) {
@@ -73,17 +59,10 @@ impl PlaceSet {
         }
     }
 
-    /// Keeps the other's places alone.
-    pub fn keep(&mut self, other: &PlaceSet) {
-        for (word, kept) in self.words.iter_mut().zip(&other.words) {
-            *word &= *kept;
-        }
-    }
-
-    /// Takes out the other's places.
-    pub fn remove(&mut self, other: &PlaceSet) {
-        for (word, gone) in self.words.iter_mut().zip(&other.words) {
-            *word &= !*gone;
+    /// Takes all places out.
+    pub fn clear(&mut self) {
+        for word in self.words.iter_mut() {
+            *word = 0;
         }
     }
 
@@ -107,16 +86,62 @@ impl PlaceSet {
     pub fn places(&self, alloc: Global) -> Result<Vec<usize>, NoMemory> {
         let mut places = Vec::new(alloc);
         for (index, word) in self.words.iter().enumerate() {
-            if *word == 0 {
-                continue;
-            }
-            let first = index.saturating_mul(64);
-            for bit in 0..64 {
-                if (*word >> bit) & 1 == 1 {
-                    places.push(first.saturating_add(bit))?;
-                }
+            put_places(&mut places, index.saturating_mul(64), *word)?;
+        }
+        Ok(places)
+    }
+
+    /// Those that another has, too, and a third doesn't, rising.
+    pub fn places_but(
+        &self,
+        alloc: Global,
+        other: &PlaceSet,
+        third: &PlaceSet,
+    ) -> Result<Vec<usize>, NoMemory> {
+        let mut places = Vec::new(alloc);
+        for (index, word) in self.words.iter().enumerate() {
+            if let (Some(others), Some(thirds)) = (other.words.get(index), third.words.get(index)) {
+                let common = *word & *others & !*thirds;
+                put_places(&mut places, index.saturating_mul(64), common)?;
             }
         }
         Ok(places)
+    }
+}
+
+/// Sets of places, by number. Where there is no such set it has none, and none are put.
+#[derive(Drop)]
+pub struct PlaceSets {
+    sets: Vec<PlaceSet>,
+    none: PlaceSet,
+}
+
+impl PlaceSets {
+    /// `count` sets, each with none of `places` places.
+    pub fn new(alloc: Global, count: usize, places: usize) -> Result<PlaceSets, NoMemory> {
+        let mut sets = Vec::with_capacity(alloc, count)?;
+        for _set in 0..count {
+            sets.push(PlaceSet::new(alloc, places)?)?;
+        }
+        let none = PlaceSet::new(alloc, places)?;
+        Ok(PlaceSets { sets, none })
+    }
+
+    pub fn at(&self, number: usize) -> &PlaceSet {
+        self.sets.get(number).unwrap_or(&self.none)
+    }
+
+    /// Adds the place to the set.
+    pub fn put(&mut self, number: usize, place: usize) {
+        if let Some(set) = self.sets.get_mut(number) {
+            set.put(place);
+        }
+    }
+
+    /// Adds the places to the set.
+    pub fn add(&mut self, number: usize, places: &PlaceSet) {
+        if let Some(set) = self.sets.get_mut(number) {
+            set.add(places);
+        }
     }
 }

@@ -1,215 +1,176 @@
 use crate::contradiction::absurd::Absurd;
-use crate::contradiction::derivation::Derivation;
-use crate::contradiction::derived::Rule;
-use crate::contradiction::grounds::Grounds;
-use crate::contradiction::history::History;
-use crate::contradiction::paths::{Link, path};
+use crate::contradiction::derivation::{Derivation, Derived, Rule};
+use crate::contradiction::paths::path;
 use crate::contradiction::place_set::PlaceSet;
-use crate::contradiction::settling::Condition;
-use crate::contradiction::window::Window;
+use crate::contradiction::settling::{Settled, Whose, who_put};
+use crate::contradiction::telling::{given_fact, put_once};
 use nvm_record::NoMemory;
-use nvm_standard::Node;
-use std::alloc::Global;
+use nvm_standard::Fact;
 
 /// Why something of a window can't be.
 #[derive(Drop)]
-pub struct Reasons {
+pub struct Reasons<'a> {
+    pub derivation: &'a Derivation<'a>,
     /// What comes before what by the times.
-    pub times: Vec<Link>,
-    /// The same where it goes without saying.
-    pub spare: Vec<Link>,
-    /// What was derived, by its places there, rising.
-    pub derived: Vec<usize>,
+    pub times: Vec<Fact>,
+    /// What comes before what where that goes without saying.
+    pub spare: Vec<Fact>,
+    /// What was derived, by its places there.
+    pub derived: PlaceSet,
     /// The finds that are looked at.
     pub finds: PlaceSet,
+    /// Of what was derived only the first are reasons for what is looked at.
+    first: usize,
+    /// Whether each order that it rests on was found.
+    is_whole: bool,
 }
 
-impl Reasons {
-    /// The nodes of which nothing may be said: those that can have put what was found, and those between them and their readers.
-    pub fn nodes(&self, alloc: Global, window: &Window) -> Result<Vec<Node>, NoMemory> {
-        let mut nodes = Vec::new(alloc);
-        for find in &self.finds.places(alloc)? {
-            if let Some(find) = window.finds.get(*find) {
-                for writer in &find.writers {
-                    if let Some(node) = window.node(*writer) {
-                        nodes.push(node)?;
-                    }
-                }
-            }
-        }
-        for link in &self.spare {
-            if let (Some(earlier), Some(later)) = (
-                window.node(link.earlier),
-                window.node(link.later),
-            ) {
-                nodes.push(earlier)?;
-                nodes.push(later)?;
-            }
-        }
-        Ok(nodes)
-    }
-}
-
-/// Puts the link at the end, if it isn't there.
-fn put_once(links: &mut Vec<Link>, link: Link) -> Result<(), NoMemory> {
-    if !links.contains(&link) {
-        links.push(link)?;
-    }
-    Ok(())
-}
-
-/// What is known to be needed, before it is in its order.
-#[derive(Drop)]
-struct Needed {
-    times: Vec<Link>,
-    spare: Vec<Link>,
-    derived: PlaceSet,
-    finds: PlaceSet,
-}
-
-impl Needed {
-    /// That the node is there, by the first of what was derived, if that isn't sure by itself.
-    fn put_there(&mut self, derivation: &Derivation, first: usize, place: usize) {
-        match derivation.there.get(place) {
-            Some(Some(index)) if *index < first => self.derived.put(*index),
-            _ => {}
+impl<'a> Reasons<'a> {
+    fn put_derived(&mut self, index: usize) {
+        if index < self.first {
+            self.derived.put(index);
         }
     }
 
-    /// The links of a path, whose inner nodes have to be there. One alone goes without saying if the table says it.
-    fn put_links(
-        &mut self,
-        derivation: &Derivation,
-        first: usize,
-        links: &Vec<Link>,
-    ) -> Result<(), NoMemory> {
+    /// That the node is there, if that isn't sure by itself.
+    fn put_there(&mut self, place: usize) {
+        if let Some(index) = self.derivation.there(place).checked_sub(1) {
+            self.put_derived(index);
+        }
+    }
+
+    /// That the one comes before the other, by a path whose inner nodes have to be there. One link alone goes without saying if the table
+    /// says it.
+    fn put_order(&mut self, earlier: usize, later: usize) -> Result<(), NoMemory> {
+        let derivation = self.derivation;
+        let Some(links) = path(derivation, self.first, earlier, later)? else {
+            self.is_whole = false;
+            return Ok(());
+        };
         if let (1, Some(link)) = (links.len(), links.first()) {
-            if derivation.is_said_by_the_table(*link) {
-                return put_once(&mut self.spare, *link);
+            if let Some(fact) = given_fact(derivation, *link) {
+                return put_once(&mut self.spare, fact);
             }
         }
         for (place, link) in links.iter().enumerate() {
-            match link.derived {
-                Some(index) => self.derived.put(index),
-                None => put_once(&mut self.times, *link)?,
+            match (link.derived, given_fact(derivation, *link)) {
+                (Some(index), _) => self.put_derived(index),
+                (None, Some(fact)) => put_once(&mut self.times, fact)?,
+                (None, None) => {}
             }
             if place > 0 {
-                self.put_there(derivation, first, link.earlier);
+                self.put_there(link.earlier);
             }
         }
         Ok(())
     }
 
-    /// The grounds, by the first of what was derived, if they are kept by these.
-    fn put_grounds(
-        &mut self,
-        alloc: Global,
-        history: &History<'_, '_>,
-        window: &Window,
-        derivation: &Derivation,
-        first: usize,
-        grounds: &Grounds,
-    ) -> Result<bool, NoMemory> {
-        for index in &grounds.derived {
-            self.derived.put(*index);
+    /// Why no other can have put what the reader found, and why it wasn't there at first.
+    fn put_settled(&mut self, reader: usize, settled: &Settled) -> Result<(), NoMemory> {
+        if let Some(index) = settled.other {
+            self.put_derived(index);
         }
-        for place in &grounds.there {
-            self.put_there(derivation, first, *place);
+        self.put_there(reader);
+        for place in &settled.between {
+            self.put_there(*place);
         }
-        for condition in &grounds.conditions {
-            match path(alloc, history, window, derivation, first, *condition)? {
-                Some(links) => self.put_links(derivation, first, &links)?,
-                None => return Ok(false),
-            }
+        for (earlier, later) in &settled.orders {
+            self.put_order(*earlier, *later)?;
         }
-        Ok(true)
+        Ok(())
     }
-}
 
-/// What it rests on that something can't be, and the finds of which it speaks.
-fn grounds_of(
-    alloc: Global,
-    window: &Window,
-    derivation: &Derivation,
-    absurd: &Absurd,
-    finds: &mut PlaceSet,
-) -> Result<Grounds, NoMemory> {
-    let mut grounds = Grounds::new(alloc);
-    match absurd {
-        Absurd::Loop { place } => {
-            grounds.there.push(*place)?;
-            grounds.conditions.push(Condition {
-                earlier: *place,
-                later: *place,
-            })?;
-        }
-        Absurd::Nobody { find } => {
-            finds.put(*find);
-            derivation.put_nobody(alloc, &mut grounds, window, *find)?;
-        }
-        Absurd::Nowhere { finds: each } => {
-            for find in each {
-                finds.put(*find);
-                derivation.put_nobody(alloc, &mut grounds, window, *find)?;
-            }
+    /// Why the find is settled so.
+    fn put_find(&mut self, number: usize) -> Result<(), NoMemory> {
+        let derivation = self.derivation;
+        self.finds.put(number);
+        match (
+            derivation.window.finds.get(number),
+            derivation.settled.get(number),
+        ) {
+            (Some(find), Some(Some(settled))) => self.put_settled(find.reader, settled),
+            _ => Ok(()),
         }
     }
-    Ok(grounds)
+
+    /// Why nobody can have put what was found.
+    fn put_nobody(&mut self, number: usize) -> Result<(), NoMemory> {
+        let derivation = self.derivation;
+        self.finds.put(number);
+        let Some(find) = derivation.window.finds.get(number) else {
+            return Ok(());
+        };
+        match who_put(derivation, find, true)? {
+            Some(settled) => self.put_settled(find.reader, &settled),
+            None => Ok(()),
+        }
+    }
+
+    /// What it rests on that this was derived.
+    fn put_rule(&mut self, derived: Derived) -> Result<(), NoMemory> {
+        let Derived { earlier, later, by } = derived;
+        match by {
+            Rule::Deallocate => {}
+            Rule::Own { by } => self.put_there(by),
+            Rule::Source { find } | Rule::AtFirst { find } => self.put_find(find)?,
+            Rule::First { find } => {
+                self.put_find(find)?;
+                self.put_there(later);
+            }
+            Rule::Over { find } => {
+                self.put_find(find)?;
+                self.put_there(later);
+                if let Some(Whose::Writer(source)) = self.derivation.whose(find) {
+                    self.put_order(source, later)?;
+                }
+            }
+            Rule::Under { find } => {
+                self.put_find(find)?;
+                self.put_there(earlier);
+                if let Some(find) = self.derivation.window.finds.get(find) {
+                    self.put_order(earlier, find.reader)?;
+                }
+            }
+            Rule::TiedBefore { by } => self.put_order(by, later)?,
+            Rule::TiedAfter { by } => self.put_order(earlier, by)?,
+        }
+        Ok(())
+    }
 }
 
 /// Why it can't be: all that it rests on.
-pub fn reasons_of(
-    alloc: Global,
-    history: &History<'_, '_>,
-    window: &Window,
-    derivation: &Derivation,
+pub fn reasons_of<'a>(
+    derivation: &'a Derivation<'a>,
     absurd: &Absurd,
-) -> Result<Option<Reasons>, NoMemory> {
+) -> Result<Option<Reasons<'a>>, NoMemory> {
+    let window = derivation.window;
+    let alloc = window.history.alloc;
     let count = derivation.derived.len();
-    let mut needed = Needed {
+    let mut reasons = Reasons {
+        derivation,
         times: Vec::new(alloc),
         spare: Vec::new(alloc),
         derived: PlaceSet::new(alloc, count)?,
         finds: PlaceSet::new(alloc, window.finds.len())?,
+        first: count,
+        is_whole: true,
     };
-    let grounds = grounds_of(alloc, window, derivation, absurd, &mut needed.finds)?;
-    if !needed.put_grounds(alloc, history, window, derivation, count, &grounds)? {
-        return Ok(None);
+    if let Some(place) = absurd.circle {
+        reasons.put_there(place);
+        reasons.put_order(place, place)?;
     }
-    let mut derived = Vec::new(alloc);
+    for find in &absurd.finds {
+        reasons.put_nobody(*find)?;
+    }
     for index in (0..count).rev() {
-        if !needed.derived.has(index) {
-            continue;
-        }
-        derived.push(index)?;
-        let its = derivation.derived[index];
-        match its.by {
-            Rule::Source { find }
-            | Rule::Over { find }
-            | Rule::Under { find }
-            | Rule::First { find }
-            | Rule::AtFirst { find } => needed.finds.put(find),
-            Rule::Deallocate
-            | Rule::Own { .. }
-            | Rule::TiedBefore { .. }
-            | Rule::TiedAfter { .. } => {}
-        }
-        let grounds = derivation.grounds(alloc, window, its)?;
-        if !needed.put_grounds(alloc, history, window, derivation, index, &grounds)? {
-            return Ok(None);
+        if reasons.is_whole && reasons.derived.has(index) {
+            reasons.first = index;
+            reasons.put_rule(derivation.derived[index])?;
         }
     }
-    derived.reverse();
-    let Needed {
-        times,
-        spare,
-        finds,
-        ..
-    } = needed;
-    Ok(Some(Reasons {
-        times,
-        spare,
-        derived,
-        finds,
-    }))
+    Ok(if reasons.is_whole {
+        Some(reasons)
+    } else {
+        None
+    })
 }

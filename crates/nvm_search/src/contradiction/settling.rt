@@ -1,16 +1,8 @@
 //! Whose block a node of a window found, by the orders that are known.
-use crate::contradiction::orders::Orders;
-use crate::contradiction::place_set::PlaceSet;
+use crate::contradiction::derivation::Derivation;
 use crate::contradiction::window::WindowFind;
 use nvm_record::NoMemory;
-use std::alloc::Global;
-
-/// That one node of a window has to come before another.
-#[derive(Clone, Copy)]
-pub struct Condition {
-    pub earlier: usize,
-    pub later: usize,
-}
+use nvm_standard::Presence;
 
 /// Who put what a node found.
 #[derive(Clone, Copy, PartialEq, Eq)]
@@ -26,126 +18,83 @@ pub enum Whose {
 #[derive(Drop)]
 pub struct Settled {
     pub whose: Whose,
-    /// The orders by which they can't.
-    pub conditions: Vec<Condition>,
+    /// The orders by which they can't: each of a node that has to come before another.
+    pub orders: Vec<(usize, usize)>,
     /// Those that come between, which have to be there.
     pub between: Vec<usize>,
-    /// Whether it rests on what another found at first.
-    pub is_other: bool,
+    /// Where it was derived what was there at first, if it rests on that.
+    pub other: Option<usize>,
 }
 
 impl Settled {
-    /// Puts down by which orders the reader can't have found what the writer put, if it can't: the writer comes after it, or one that
-    /// surely put something there or found something else comes between them.
+    /// Puts down by which orders the reader can't have found what the writer put, or what was there at first, if it can't: the writer comes
+    /// after it, or one that surely put something there or found something else comes between them.
     fn put_excuse(
         &mut self,
-        orders: &Orders,
-        sure: &PlaceSet,
+        derivation: &Derivation<'_>,
         find: &WindowFind,
-        writer: usize,
+        writer: Option<usize>,
     ) -> Result<bool, NoMemory> {
-        let reader = find.reader;
-        if orders.has(reader, writer) {
-            self.conditions.push(Condition {
-                earlier: reader,
-                later: writer,
-            })?;
-            return Ok(true);
+        let orders = &derivation.orders;
+        let before = orders.before.at(find.reader);
+        let mut since = before;
+        if let Some(writer) = writer {
+            if orders.has(find.reader, writer) {
+                self.orders.push((find.reader, writer))?;
+                return Ok(true);
+            }
+            since = orders.after.at(writer);
         }
-        let (Some(after), Some(before)) = (orders.after(writer), orders.before(reader)) else {
+        let sure = derivation.sure.at(find.at).first_with(since, before);
+        let found = if sure.is_some() {
+            sure
+        } else {
+            find.others.first_with(since, before)
+        };
+        let Some(between) = found else {
             return Ok(false);
         };
-        let Some(between) = first_between(sure, find, after, before) else {
-            return Ok(false);
-        };
-        self.conditions.push(Condition {
-            earlier: writer,
-            later: between,
-        })?;
-        self.conditions.push(Condition {
-            earlier: between,
-            later: reader,
-        })?;
+        if let Some(writer) = writer {
+            self.orders.push((writer, between))?;
+        }
+        self.orders.push((between, find.reader))?;
         self.between.push(between)?;
         Ok(true)
     }
-
-    /// Puts down by which order the reader can't have found what was there at first, if it can't.
-    fn put_first_excuse(
-        &mut self,
-        orders: &Orders,
-        sure: &PlaceSet,
-        find: &WindowFind,
-    ) -> Result<bool, NoMemory> {
-        let Some(before) = orders.before(find.reader) else {
-            return Ok(false);
-        };
-        let Some(earlier) = first_between(sure, find, before, before) else {
-            return Ok(false);
-        };
-        self.conditions.push(Condition {
-            earlier,
-            later: find.reader,
-        })?;
-        self.between.push(earlier)?;
-        Ok(true)
-    }
 }
 
-/// Of what is in both sets the first that surely put something in the find's block, or that found something else there.
-fn first_between(
-    sure: &PlaceSet,
-    find: &WindowFind,
-    after: &PlaceSet,
-    before: &PlaceSet,
-) -> Option<usize> {
-    match sure.first_with(after, before) {
-        Some(writer) => Some(writer),
-        None => find.others.first_with(after, before),
-    }
-}
-
-/// Who put what was found, where the orders leave one.
-///
-/// `sure` are those that surely put something in the block, and `repeated` those that may be done more than once, of which none is said
-/// to be the one. `is_other` says that another is known to have been there at first, and `is_there` that the reader is known to be there.
+/// Who put what was found, where the orders leave one that isn't done any number of times. `is_there` says that the reader is known to be
+/// there.
 pub fn who_put(
-    alloc: Global,
-    orders: &Orders,
+    derivation: &Derivation<'_>,
     find: &WindowFind,
-    sure: &PlaceSet,
-    repeated: &PlaceSet,
-    is_other: bool,
     is_there: bool,
 ) -> Result<Option<Settled>, NoMemory> {
+    let window = derivation.window;
     let mut settled = Settled {
         whose: Whose::Nobody,
-        conditions: Vec::new(alloc),
-        between: Vec::new(alloc),
-        is_other: false,
+        orders: Vec::new(window.history.alloc),
+        between: Vec::new(window.history.alloc),
+        other: None,
     };
-    let mut source = None;
     for writer in &find.writers {
-        if !settled.put_excuse(orders, sure, find, *writer)? {
-            if source.is_some() || !is_there || repeated.has(*writer) {
+        if settled.put_excuse(derivation, find, Some(*writer))? {
+            continue;
+        }
+        let may_repeat = window.point(*writer).presence == Presence::Repeated;
+        if settled.whose != Whose::Nobody || !is_there || may_repeat {
+            return Ok(None);
+        }
+        settled.whose = Whose::Writer(*writer);
+    }
+    if find.was_first && !settled.put_excuse(derivation, find, None)? {
+        settled.other = derivation.other_first(find);
+        if settled.other.is_none() {
+            if settled.whose != Whose::Nobody || !is_there {
                 return Ok(None);
             }
-            source = Some(*writer);
+            settled.whose = Whose::First;
         }
-    }
-    let mut may_be_first = false;
-    if find.was_first && !settled.put_first_excuse(orders, sure, find)? {
-        settled.is_other = is_other;
-        may_be_first = !is_other;
-    }
-    settled.whose = match (source, may_be_first) {
-        (None, true) => Whose::First,
-        (None, false) => Whose::Nobody,
-        (Some(source), false) => Whose::Writer(source),
-        (Some(_), true) => return Ok(None),
-    };
-    if settled.whose == Whose::First && !is_there {
-        return Ok(None);
     }
     Ok(Some(settled))
 }

@@ -1,11 +1,10 @@
 //! Where in a component nodes are looked for that contradict each other.
 use crate::contradiction::history::History;
-use crate::contradiction::naming::Named;
-use crate::contradiction::shortening::{least_contradiction, shorter};
+use crate::contradiction::naming::{Named, is_short, shorter};
+use crate::contradiction::shortening::least_contradiction;
 use crate::contradiction::window::SERVERS;
 use nvm_record::NoMemory;
 use nvm_standard::Node;
-use std::alloc::Global;
 
 /// How many nodes side by side are looked at, at least, where a component has too many to be looked at together.
 const STRETCH: usize = 128;
@@ -17,12 +16,8 @@ const TIMES: usize = 4;
 const TRIES: usize = 8;
 
 /// The most nodes of those whose time is over some day that are under way at once.
-fn most_under_way(
-    alloc: Global,
-    history: &History<'_, '_>,
-    nodes: &Vec<Node>,
-) -> Result<usize, NoMemory> {
-    let mut ends = Vec::with_capacity(alloc, nodes.len())?;
+fn most_under_way(history: &History<'_>, nodes: &Vec<Node>) -> Result<usize, NoMemory> {
+    let mut ends = Vec::with_capacity(history.alloc, nodes.len())?;
     for node in nodes {
         ends.push(history.until(node.point))?;
     }
@@ -32,7 +27,7 @@ fn most_under_way(
     for node in nodes {
         if history.until(node.point) < u64::MAX {
             begun = begun.saturating_add(1);
-            let from = history.from(node.point);
+            let from = history.point(node.point).from;
             let over = ends.partition_point(|end| *end < from);
             most = most.max(begun.saturating_sub(over));
         }
@@ -42,32 +37,24 @@ fn most_under_way(
 
 /// The nodes from one place to another, and those that can have put what they found, at most `most`.
 fn nodes_round(
-    alloc: Global,
-    history: &History<'_, '_>,
+    history: &History<'_>,
     nodes: &Vec<Node>,
     from: usize,
     to: usize,
     most: usize,
 ) -> Result<Vec<Node>, NoMemory> {
-    let mut chosen = Vec::with_capacity(alloc, to.saturating_sub(from))?;
-    for place in from..to {
-        if let Some(node) = nodes.get(place) {
-            chosen.push(*node)?;
-        }
-    }
-    for place in from..to {
-        let Some(node) = nodes.get(place) else {
-            break;
-        };
-        let (first, end) = history.found_at(node.point, node.block);
-        for at in first..end {
-            let Some(block) = history.blocks.get(at) else {
-                break;
-            };
+    let alloc = history.alloc;
+    let mut chosen = Vec::new(alloc);
+    let Some(nodes) = nodes.get(from..to) else {
+        return Ok(chosen);
+    };
+    chosen.extend_from_slice(nodes)?;
+    for node in nodes {
+        for block in history.found_at(*node) {
             let Some(sought) = history.sought(node.point, *block) else {
                 continue;
             };
-            let servers = history.servers(alloc, node.point, *block, sought, SERVERS)?;
+            let servers = history.servers(node.point, *block, sought, SERVERS)?;
             for server in &servers.unwrap_or(Vec::new(alloc)) {
                 if chosen.len() < most {
                     chosen.push(history.node(*server, *block))?;
@@ -81,35 +68,30 @@ fn nodes_round(
 /// The contradiction of the component's nodes, which are by when they began: of all together if they are at most `most`, and else of some
 /// that are side by side.
 pub fn in_stretches(
-    alloc: Global,
-    history: &History<'_, '_>,
+    history: &History<'_>,
     nodes: &Vec<Node>,
     most: usize,
 ) -> Result<Option<Named>, NoMemory> {
     if nodes.len() <= most {
-        return least_contradiction(alloc, history, nodes);
+        return least_contradiction(history, nodes);
     }
-    let crowd = most_under_way(alloc, history, nodes)?;
+    let crowd = most_under_way(history, nodes)?;
     let stretch = crowd.saturating_mul(TIMES).max(STRETCH).min(most);
-    let step = stretch / 2;
     let mut best: Option<Named> = None;
     let mut tries = 0usize;
     let mut from = 0usize;
     for _turn in 0..nodes.len() {
         let to = from.saturating_add(stretch).min(nodes.len());
-        let some = nodes_round(alloc, history, nodes, from, to, stretch.saturating_mul(2))?;
-        if let Some(found) = least_contradiction(alloc, history, &some)? {
-            let is_short = found.is_short();
-            best = shorter(best, Some(found));
+        let some = nodes_round(history, nodes, from, to, stretch.saturating_mul(2))?;
+        let found = least_contradiction(history, &some)?;
+        if found.is_some() {
+            best = shorter(best, found);
             tries = tries.saturating_add(1);
-            if is_short || tries == TRIES {
-                break;
-            }
         }
-        if to == nodes.len() {
+        if is_short(&best) || tries == TRIES || to == nodes.len() {
             break;
         }
-        from = from.saturating_add(step);
+        from = from.saturating_add(stretch / 2);
     }
     Ok(best)
 }

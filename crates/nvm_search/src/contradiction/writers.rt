@@ -1,36 +1,22 @@
-//! Lists of who can have put what in which blocks, in which those are found fast that matter at a time.
-use crate::contradiction::sought::Sought;
+//! Lists of who can have put what in which blocks, and of who surely put something there, in which those are found fast that matter at a
+//! time.
+use crate::contradiction::contents::Sought;
 use nvm_record::NoMemory;
-use std::alloc::Global;
 
 /// That a point can have put something in a block.
 #[derive(Clone, Copy)]
 pub struct Writer {
     pub block: u32,
+    /// By what the runs of a block are told apart: the value, or that it is of all values.
+    pub key: u32,
     /// The number of what it can have put.
     pub value: u32,
+    pub point: u32,
     pub from: u64,
     /// When it was over.
     pub until: u64,
-    pub point: u32,
-}
-
-/// A writer in its run.
-#[derive(Clone, Copy)]
-struct Listed {
-    writer: Writer,
-    /// Of this one and those before it in the run, when the last of them was over.
-    reach: u64,
-}
-
-/// So many writers are gone through at most to find some.
-const LOOKED: usize = 4_096;
-
-/// Places from one up to another.
-#[derive(Clone, Copy)]
-pub struct Run {
-    pub from: usize,
-    pub to: usize,
+    /// Of this one and those before it in its run, once they are settled, when the last of them was over.
+    pub reach: u64,
 }
 
 /// Which writers of a run are asked for.
@@ -44,138 +30,99 @@ pub struct Asked {
     pub by: u64,
     /// and weren't over before this one.
     pub least: u64,
+    /// How many, at most,
+    pub most: usize,
+    /// and among how many they are looked for.
+    pub looked: usize,
 }
 
-/// By what the runs of a block are told apart: the value, if `by_value`.
-fn run_of(writer: &Writer, by_value: bool) -> u32 {
-    if by_value { writer.value } else { 0 }
+/// Sorts the writers into runs of the same block and key, and in these by when they began.
+pub fn settle(writers: &mut Vec<Writer>) {
+    writers.sort_unstable_by_key(|it| (it.block, it.key, it.from, it.point));
+    let mut before: Option<Writer> = None;
+    for writer in writers.iter_mut() {
+        if let Some(last) = before {
+            if last.block == writer.block && last.key == writer.key {
+                writer.reach = writer.reach.max(last.reach);
+            }
+        }
+        before = Some(*writer);
+    }
 }
 
-/// Writers in runs of the same block, or block and value, and in these by when they began.
-#[derive(Drop)]
-pub struct Writers {
-    items: Vec<Listed>,
+/// The run of the block and key.
+pub fn run(writers: &Vec<Writer>, block: u32, key: u32) -> &[Writer] {
+    let run = (block, key);
+    let from = writers.partition_point(|it| (it.block, it.key) < run);
+    let to = writers.partition_point(|it| (it.block, it.key) <= run);
+    match writers.get(from..to) {
+        Some(run) => run,
+        None => &[],
+    }
 }
 
-impl Writers {
-    pub fn new(alloc: Global) -> Writers {
-        Writers {
-            items: Vec::new(alloc),
+/// Puts the points of the run that are asked for at the end. It says no where they are too many, or hard to find, and puts some of them
+/// then.
+pub fn put_asked(out: &mut Vec<u32>, run: &[Writer], asked: Asked) -> Result<bool, NoMemory> {
+    let begun = run.partition_point(|it| it.from <= asked.by);
+    let Some(begun) = run.get(0..begun) else {
+        return Ok(true);
+    };
+    let mut looked = 0usize;
+    for writer in begun.iter().rev() {
+        if writer.reach < asked.least {
+            break;
         }
-    }
-
-    pub fn put(&mut self, writer: Writer) -> Result<(), NoMemory> {
-        self.items.push(Listed {
-            writer,
-            reach: writer.until,
-        })?;
-        Ok(())
-    }
-
-    /// Sorts them, once all are there, into runs of the same block, and value if `by_value`.
-    pub fn settle(&mut self, by_value: bool) {
-        self.items.sort_unstable_by_key(|it| {
-            let writer = it.writer;
-            let run = run_of(&writer, by_value);
-            (writer.block, run, writer.from, writer.point)
-        });
-        let mut before: Option<Listed> = None;
-        for item in self.items.iter_mut() {
-            if let Some(last) = before {
-                if last.writer.block == item.writer.block
-                    && run_of(&last.writer, by_value) == run_of(&item.writer, by_value)
-                {
-                    item.reach = item.reach.max(last.reach);
-                }
-            }
-            before = Some(*item);
+        if looked >= asked.looked {
+            return Ok(false);
         }
-    }
-
-    pub fn all(&self) -> Run {
-        Run {
-            from: 0,
-            to: self.items.len(),
+        looked = looked.saturating_add(1);
+        if writer.until < asked.least
+            || writer.point == asked.reader
+            || !asked.sought.may_be(writer.value)
+        {
+            continue;
         }
-    }
-
-    /// The run of the block.
-    pub fn of_block(&self, block: u32) -> Run {
-        Run {
-            from: self.items.partition_point(|it| it.writer.block < block),
-            to: self.items.partition_point(|it| it.writer.block <= block),
+        if out.len() >= asked.most {
+            return Ok(false);
         }
+        out.push(writer.point)?;
     }
+    Ok(true)
+}
 
-    /// The run of the block and value.
-    pub fn of_value(&self, block: u32, value: u32) -> Run {
-        let key = (block, value);
-        Run {
-            from: self
-                .items
-                .partition_point(|it| (it.writer.block, it.writer.value) < key),
-            to: self
-                .items
-                .partition_point(|it| (it.writer.block, it.writer.value) <= key),
-        }
-    }
+/// That a point surely put something in a block. They are ordered by block and by when they were over.
+#[derive(Clone, Copy, PartialEq, Eq, PartialOrd, Ord)]
+pub struct SureWriter {
+    pub block: u32,
+    pub until: u64,
+    pub from: u64,
+    pub point: u32,
+}
 
-    /// Puts the points of the run that are asked for at the end. It says no where they are more than `most`, or hard to find, and puts some of
-    /// them then.
-    pub fn put_asked(
-        &self,
-        out: &mut Vec<u32>,
-        run: Run,
-        asked: Asked,
-        most: usize,
-    ) -> Result<bool, NoMemory> {
-        let Some(items) = self.items.get(run.from..run.to) else {
-            return Ok(true);
-        };
-        let begun = items.partition_point(|it| it.writer.from <= asked.by);
-        let Some(begun) = items.get(0..begun) else {
-            return Ok(true);
-        };
-        let mut looked = 0usize;
-        for item in begun.iter().rev() {
-            if item.reach < asked.least {
-                break;
-            }
-            looked = looked.saturating_add(1);
-            if looked > LOOKED {
-                return Ok(false);
-            }
-            let writer = item.writer;
-            if writer.until < asked.least
-                || writer.point == asked.reader
-                || !asked.sought.may_be(writer.value)
-            {
-                continue;
-            }
-            if out.len() >= most {
-                return Ok(false);
-            }
-            out.push(writer.point)?;
-        }
-        Ok(true)
-    }
-
-    /// Puts all other points of the run that can have put what was found at the end.
-    pub fn put_all(
-        &self,
-        out: &mut Vec<u32>,
-        run: Run,
-        reader: u32,
-        sought: Sought,
-    ) -> Result<(), NoMemory> {
-        let Some(items) = self.items.get(run.from..run.to) else {
-            return Ok(());
-        };
-        for item in items {
-            if item.writer.point != reader && sought.may_be(item.writer.value) {
-                out.push(item.writer.point)?;
+/// Sorts the writers, and has each name, of those that were over by then in its block, the one that began last.
+pub fn settle_sure(writers: &mut Vec<SureWriter>) {
+    writers.sort_unstable();
+    let mut before: Option<SureWriter> = None;
+    for writer in writers.iter_mut() {
+        if let Some(last) = before {
+            if last.block == writer.block && last.from > writer.from {
+                writer.from = last.from;
+                writer.point = last.point;
             }
         }
-        Ok(())
+        before = Some(*writer);
+    }
+}
+
+/// Of those that were over in the block before the time, the one that began last.
+pub fn last_sure(writers: &Vec<SureWriter>, block: u32, time: u64) -> Option<u32> {
+    let key = (block, time);
+    let to = writers.partition_point(|it| (it.block, it.until) < key);
+    let last = writers.get(to.checked_sub(1)?)?;
+    if last.block == block {
+        Some(last.point)
+    } else {
+        None
     }
 }

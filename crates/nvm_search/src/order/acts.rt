@@ -27,6 +27,7 @@ pub enum Gives {
 /// A block of an act. Blocks are counted from the first of the part.
 #[derive(Clone, Copy, Debug)]
 pub struct Cell {
+    pub act: u32,
     pub block: u32,
     pub wants: Wants,
     pub gives: Gives,
@@ -81,6 +82,7 @@ pub const NO_ACT: Act = Act {
 
 /// Where there is no cell.
 pub const NO_CELL: Cell = Cell {
+    act: NONE,
     block: 0,
     wants: Wants::Nothing,
     gives: Gives::Nothing,

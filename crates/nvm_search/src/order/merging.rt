@@ -1,11 +1,10 @@
-use crate::numbers::{MARK, Numbers, Values, block_at, to_u32};
+use crate::numbers::{MARK, Numbers, Values, block_at};
 use crate::order::acts::{Gives, NONE};
-use crate::order::derivation::Derivation;
+use crate::order::board::{Field, Step};
 use crate::order::making::{Known, Part, part_of};
 use crate::order::parts::{Share, shares_of};
-use crate::order::ranks::Ranks;
-use crate::order::search::{Search, Step};
 use crate::order::together::done_together;
+use crate::order::trying::{Miss, searched};
 use nvm_judge::Stop;
 use nvm_record::NoMemory;
 use nvm_standard::{Content, FirstContent, Order, Placed, Point, Points, Presence, Value};
@@ -14,56 +13,44 @@ use std::alloc::Global;
 /// The bytes of a block of FFh.
 const ONES: &[u8] = &[0xff; 4096];
 
-/// How many acts are looked at in a part before it is asked what comes before what: so many, and some for each act.
-const FEW: u64 = 10_000;
-
-const EACH_ACT: u64 = 8;
-/// Which part of the effort that is left is spent on a part before others have to have points in its place.
-const TRIES: u64 = 32;
 /// How many acts may be looked at for each of the effort.
 const EACH: u64 = 100;
 
-/// A step of a part, by the latest time at which it or one before it in the part began. Merged by these times the parts' orders keep
-/// all times.
-#[derive(Clone, Copy, Debug, PartialEq, Eq, PartialOrd, Ord)]
-struct Merged {
-    latest: u32,
-    part: u32,
-    turn: u32,
-    point: u32,
-    first: u32,
-    blocks: u32,
-    /// The value that is put, where there was a choice.
-    value: u32,
+/// What was found for a part.
+#[derive(Drop)]
+struct Found<'t> {
+    /// What is placed, each with the latest time at which it or one before it in the part began. Merged by these times the parts' orders
+    /// keep all times.
+    steps: Vec<(u32, Placed<'t>)>,
+    first: Vec<FirstContent<'t>>,
 }
 
 /// What a value stands for.
-fn content_of<'t>(values: &Values<'t>, ones: u32, value: u32) -> Content<'t> {
+fn content_of<'t>(known: &Known<'_, 't>, value: u32) -> Content<'t> {
     if value == MARK {
         return Content::Mark;
     }
-    if value == ones {
+    if value == known.ones {
         return Content::Ones;
     }
-    match values.bytes_of(value) {
+    match known.values.bytes_of(value) {
         Some(bytes) => Content::Bytes(bytes),
         None => Content::Zeroes,
     }
 }
 
-/// The step as it is merged.
-fn step_of(part: &Part, number: u32, turn: u32, step: &Step) -> Merged {
+/// What the step places.
+fn placed_by<'t>(known: &Known<'_, 't>, part: &Part, step: &Step) -> Placed<'t> {
     let act = part.act(step.act);
     let cell = part.cell(act.cell);
     let block = if act.any { step.block } else { cell.block };
     let value = match cell.gives {
-        Gives::Deallocated | Gives::Anything => part.slots.value(step.slot),
-        Gives::Nothing | Gives::Slot(_) => NONE,
+        Gives::Deallocated | Gives::Anything if step.slot != NONE => {
+            Value::Put(content_of(known, part.slots.value(step.slot)))
+        }
+        _ => Value::AsIs,
     };
-    Merged {
-        latest: step.latest,
-        part: number,
-        turn,
+    Placed {
         point: act.point,
         first: part.first.saturating_add(block),
         blocks: if act.any { 1 } else { act.cells },
@@ -71,204 +58,41 @@ fn step_of(part: &Part, number: u32, turn: u32, step: &Step) -> Merged {
     }
 }
 
-/// Adds to the order what the steps do. Blocks of one point that are done one after the other stand as one.
-fn place_all<'t>(
-    alloc: Global,
-    points: &Points<'t>,
-    values: &Values<'t>,
-    ones: u32,
-    merged: &Vec<Merged>,
-) -> Result<Vec<Placed<'t>>, NoMemory> {
-    let mut placed = Vec::with_capacity(alloc, merged.len())?;
-    for step in merged {
-        let value = if step.value == NONE {
-            Value::AsIs
-        } else {
-            Value::Put(content_of(values, ones, step.value))
-        };
-        let each = match points.points.get(step.point as usize) {
-            Some(point) => point.each,
-            None => false,
-        };
-        if each && step.value == NONE {
-            let last: Option<&mut Placed<'t>> = placed.last_mut();
-            if let Some(last) = last {
-                let end = last.first.saturating_add(last.blocks);
-                if last.point == step.point && end == step.first {
-                    last.blocks = last.blocks.saturating_add(step.blocks);
-                    continue;
-                }
-            }
-        }
-        placed.push(Placed {
-            point: step.point,
-            first: step.first,
-            blocks: step.blocks,
-            value,
-        })?;
-    }
-    Ok(placed)
-}
-
-/// What was found for a part.
-#[derive(Drop)]
-struct Found<'t> {
-    steps: Vec<Merged>,
-    first: Vec<FirstContent<'t>>,
-}
-
-/// Why nothing was found for a part.
-#[derive(Clone, Copy, Debug)]
-enum Miss {
-    /// The search got stuck at this point.
-    Stuck(u32),
-    /// No order explains the part's points.
-    Nothing,
-}
-
-/// Takes from what is left what a search spent of the most that it might.
-fn take_spent(known: &mut Known<'_, '_>, most: u64, search: &Search<'_>) {
-    let spent = most.saturating_sub(search.left_in_all);
-    known.left = known.left.saturating_sub(spent);
-}
-
-/// What a search may spend: little of what is left, or a half where it is the last try.
-fn most_of(known: &Known<'_, '_>, is_last: bool) -> u64 {
-    known.left / if is_last { 2 } else { TRIES }
-}
-
-/// Searches without asking what comes before what.
-fn search_plainly<'p>(
-    known: &mut Known<'_, '_>,
-    part: &'p Part,
-) -> Result<(Search<'p>, bool), NoMemory> {
-    let few = u64::from(part.count())
-        .saturating_mul(EACH_ACT)
-        .saturating_add(FEW);
-    let few = few.min(known.left / 2);
-    let mut search = Search::new(known.alloc, part, few, 0, None)?;
-    let is_found = search.run()?;
-    take_spent(known, few, &search);
-    Ok((search, is_found))
-}
-
-/// Searches by what comes before what. None where something would have to come before itself.
-fn search_by_precedence<'p>(
-    known: &mut Known<'_, '_>,
-    part: &'p Part,
-    is_last: bool,
-) -> Result<Option<(Search<'p>, bool)>, NoMemory> {
-    let order = Derivation::new(known.alloc, part)?;
-    if let Some(order) = &order {
-        if order.order.is_absurd && !part.is_chosen {
-            return Ok(None);
-        }
-    }
-    let most = most_of(known, is_last);
-    let mut search = Search::new(known.alloc, part, most, 1, order)?;
-    let is_found = search.run()?;
-    take_spent(known, most, &search);
-    Ok(Some((search, is_found)))
-}
-
-/// Tries all orders. None where there is none.
-fn search_through<'p>(
-    known: &mut Known<'_, '_>,
-    part: &'p Part,
-    most: u64,
-) -> Result<Option<(Search<'p>, bool)>, NoMemory> {
-    let mut search = Search::new(known.alloc, part, most, 0, None)?;
-    let answer = search.run_through()?;
-    take_spent(known, most, &search);
-    if answer == Some(false) && !part.is_chosen && !part.starts_unknown {
-        return Ok(None);
-    }
-    Ok(Some((search, answer == Some(true))))
-}
-
-/// A search that found an order of the part's points. Unless it is the last try, none goes on for as long as it might.
-fn searched<'p>(
-    known: &mut Known<'_, '_>,
-    part: &'p Part,
-    is_last: bool,
-) -> Result<Result<Search<'p>, Miss>, NoMemory> {
-    let (search, is_found) = search_plainly(known, part)?;
-    if is_found {
-        return Ok(Ok(search));
-    }
-    let mut stuck = search.stuck_at();
-    let has_all = part.lists.anything.count() == 0;
-    for turn in 0..3u32 {
-        let tried = if turn == 1 {
-            search_by_precedence(known, part, is_last)?
-        } else if has_all {
-            let most = most_of(known, is_last && turn == 2);
-            search_through(known, part, most)?
-        } else {
-            continue;
-        };
-        let Some((search, is_found)) = tried else {
-            return Ok(Err(Miss::Nothing));
-        };
-        if is_found {
-            return Ok(Ok(search));
-        }
-        if turn == 1 {
-            stuck = search.stuck_at();
-        }
-    }
-    known.left = known.left.saturating_sub(u64::from(part.count()));
-    Ok(Err(Miss::Stuck(stuck)))
-}
-
-/// What the search found, and notes which points are done in the part.
-fn found_by<'t>(
+/// An order of the part's points. Notes which points of which one block is done are done in the part.
+fn found_for<'t>(
     known: &mut Known<'_, 't>,
-    values: &Values<'t>,
     number: u32,
-    part: &Part,
-    search: &Search<'_>,
-) -> Result<Found<'t>, NoMemory> {
+    shares: &[Share],
+    is_last: bool,
+) -> Result<Result<Found<'t>, Miss>, NoMemory> {
+    let part = part_of(known, shares)?;
+    let board = match searched(known, &part, is_last)? {
+        Ok(board) => board,
+        Err(miss) => return Ok(Err(miss)),
+    };
     let mut found = Found {
-        steps: Vec::with_capacity(known.alloc, search.steps.len())?,
+        steps: Vec::with_capacity(known.alloc, board.steps.len())?,
         first: Vec::new(known.alloc),
     };
-    for turn in 0..search.steps.len() {
-        let step = search.steps[turn];
+    for step in &board.steps {
         if step.block != NONE {
             let point = part.act(step.act).point;
             known.met.put(point, 1);
             known.holder.put(point, number);
         }
-        found
-            .steps
-            .push(step_of(part, number, to_u32(turn), &step))?;
+        let placed = placed_by(known, &part, step);
+        found.steps.push((step.latest, placed))?;
     }
     for block in 0..part.blocks {
-        let slot = search.first(block);
+        let slot = board.at(Field::First(block));
         if slot != NONE {
             found.first.push(FirstContent {
                 block: part.first.saturating_add(block),
-                content: content_of(values, known.ones, part.slots.value(slot)),
+                content: content_of(known, part.slots.value(slot)),
             })?;
         }
     }
-    Ok(found)
-}
-
-/// An order of the part's points.
-fn found_for<'t>(
-    known: &mut Known<'_, 't>,
-    values: &mut Values<'t>,
-    number: u32,
-    shares: &[Share],
-    is_last: bool,
-) -> Result<Result<Found<'t>, Miss>, NoMemory> {
-    let part = part_of(known, values, shares)?;
-    match searched(known, &part, is_last)? {
-        Ok(search) => Ok(Ok(found_by(known, &*values, number, &part, &search)?)),
-        Err(miss) => Ok(Err(miss)),
-    }
+    Ok(Ok(found))
 }
 
 /// The shares of a part.
@@ -278,39 +102,44 @@ fn shares_in(shares: &Vec<Share>, part: u32) -> Option<&[Share]> {
     shares.get(start..end)
 }
 
-/// The last part before this one that has blocks of a point.
-fn part_before(shares: &Vec<Share>, part: u32, point: u32) -> Option<u32> {
-    for number in (0..part).rev() {
-        let of_part = shares_in(shares, number)?;
-        let at = of_part.partition_point(|share| share.point < point);
-        if let Some(share) = of_part.get(at) {
-            if share.point == point {
-                return Some(number);
+/// All times at which a point may begin or has to be over, rising.
+fn times_of(alloc: Global, points: &Vec<Point<'_>>) -> Result<Vec<u64>, NoMemory> {
+    let mut times = Vec::with_capacity(alloc, points.len())?;
+    for point in points {
+        times.push(point.from)?;
+        for time in [point.until, point.over] {
+            if let Some(time) = time {
+                times.push(time)?;
             }
         }
     }
-    None
+    times.sort()?;
+    times.dedup();
+    Ok(times)
 }
 
 /// What is known of the points before any search.
 fn known_of<'a, 't>(
     alloc: Global,
     points: &'a Points<'t>,
-    values: &mut Values<'t>,
     left: u64,
 ) -> Result<Known<'a, 't>, NoMemory> {
     let count = points.points.len();
+    let mut values = Values::new(alloc)?;
+    let ones = values.value_of(block_at(ONES, points.block_size, 0))?;
+    let fresh = values.fresh(points.block_size)?;
     Ok(Known {
         alloc,
         points,
-        ranks: Ranks::new(alloc, &points.points)?,
+        values,
+        times: times_of(alloc, &points.points)?,
         together: done_together(alloc, points)?,
         first_part: Numbers::new(alloc, count, NONE)?,
         last_part: Numbers::new(alloc, count, 0)?,
         holder: Numbers::new(alloc, count, 0)?,
         met: Numbers::new(alloc, count, 0)?,
-        ones: values.value_of(block_at(ONES, points.block_size, 0))?,
-        fresh: values.fresh(points.block_size)?,
+        ones,
+        fresh,
         left,
     })
 }
@@ -334,64 +163,46 @@ fn number_parts(shares: &mut Vec<Share>, known: &mut Known<'_, '_>) -> u32 {
     count
 }
 
-/// Where the search of a part got stuck at a point of which one block has to be done there: another part that has to have it instead.
-fn other_holder(
-    known: &mut Known<'_, '_>,
-    shares: &Vec<Share>,
-    part: u32,
-    point: u32,
-) -> Option<u32> {
-    let choice = known.points.points.get(point as usize)?;
-    if choice.presence != Presence::OneOf || known.holder.at(point) != part {
-        return None;
-    }
-    let other = part_before(shares, part, point)?;
-    known.met.put(point, 1);
-    known.holder.put(point, other);
-    Some(other)
-}
-
-/// Whether the two may be done at the same time.
-fn is_beside(one: &Point<'_>, other: &Point<'_>) -> bool {
-    one.until.unwrap_or(u64::MAX) >= other.from && other.until.unwrap_or(u64::MAX) >= one.from
-}
-
-/// Where the search of a part got stuck at a point: another part that has to have that instead, or else other parts that have to have those
-/// beside it of which one block has to be done.
-fn holders_instead(
-    known: &mut Known<'_, '_>,
-    shares: &Vec<Share>,
-    part: u32,
-    point: u32,
-) -> Result<Vec<u32>, NoMemory> {
-    let mut others = Vec::new(known.alloc);
-    if let Some(other) = other_holder(known, shares, part, point) {
-        others.push(other)?;
-        return Ok(others);
-    }
-    let (Some(stuck), Some(of_part)) = (
-        known.points.points.get(point as usize),
-        shares_in(shares, part),
-    ) else {
-        return Ok(others);
+/// Has a point of which one block has to be done in a part done in the one before, if it has blocks there. Says whether it has.
+fn give_back(known: &mut Known<'_, '_>, part: u32, point: u32) -> bool {
+    let is_choice = match known.points.points.get(point as usize) {
+        Some(point) => point.presence == Presence::OneOf,
+        None => false,
     };
-    for share in of_part {
+    if !is_choice || known.holder.at(point) != part || known.first_part.at(point) >= part {
+        return false;
+    }
+    known.met.put(point, 1);
+    known.holder.put(point, part.saturating_sub(1));
+    true
+}
+
+/// Where the search of a part got stuck at a point: has that done in the part before, or else those beside it of which one block has to
+/// be done. Says how many they are.
+fn give_back_any(known: &mut Known<'_, '_>, shares: &[Share], part: u32, point: u32) -> u32 {
+    if give_back(known, part, point) {
+        return 1;
+    }
+    let Some(stuck) = known.points.points.get(point as usize) else {
+        return 0;
+    };
+    let mut given = 0u32;
+    for share in shares {
         let Some(choice) = known.points.points.get(share.point as usize) else {
             break;
         };
-        if is_beside(stuck, choice) {
-            if let Some(other) = other_holder(known, shares, part, share.point) {
-                others.push(other)?;
-            }
+        let is_beside = stuck.until.unwrap_or(u64::MAX) >= choice.from
+            && choice.until.unwrap_or(u64::MAX) >= stuck.from;
+        if is_beside && give_back(known, part, share.point) {
+            given = given.saturating_add(1);
         }
     }
-    Ok(others)
+    given
 }
 
 /// What was found for each part, or why nothing was for one.
 fn search_all<'t>(
     known: &mut Known<'_, 't>,
-    values: &mut Values<'t>,
     shares: &Vec<Share>,
     parts: u32,
 ) -> Result<Result<Vec<Found<'t>>, Stop>, NoMemory> {
@@ -414,7 +225,7 @@ fn search_all<'t>(
             break;
         };
         let is_last = tried.at(part) == 1;
-        match found_for(known, values, part, of_part, is_last)? {
+        match found_for(known, part, of_part, is_last)? {
             Ok(found) => {
                 if let Some(place) = all.get_mut(part as usize) {
                     *place = found;
@@ -425,15 +236,16 @@ fn search_all<'t>(
                 if known.left == 0 {
                     return Ok(Err(Stop::Effort));
                 }
-                let others = holders_instead(known, shares, part, point)?;
-                if others.is_empty() {
-                    if is_last {
-                        return Ok(Err(Stop::Effort));
-                    }
-                    tried.put(part, 1);
+                let given = give_back_any(known, of_part, part, point);
+                if given == 0 && is_last {
+                    return Ok(Err(Stop::Effort));
                 }
                 waiting.push(part)?;
-                waiting.extend_from_slice(&others)?;
+                if given == 0 {
+                    tried.put(part, 1);
+                } else {
+                    waiting.push(part.saturating_sub(1))?;
+                }
             }
         }
     }
@@ -448,11 +260,10 @@ pub fn order_of<'t>(
     effort: u32,
 ) -> Result<Result<Order<'t>, Stop>, NoMemory> {
     let mut shares = shares_of(alloc, &points.points, points.nsze)?;
-    let mut values = Values::new(alloc)?;
     let left = u64::from(effort).saturating_mul(EACH);
-    let mut known = known_of(alloc, points, &mut values, left)?;
+    let mut known = known_of(alloc, points, left)?;
     let parts = number_parts(&mut shares, &mut known);
-    let all = match search_all(&mut known, &mut values, &shares, parts)? {
+    let all = match search_all(&mut known, &shares, parts)? {
         Ok(all) => all,
         Err(stop) => return Ok(Err(stop)),
     };
@@ -462,7 +273,26 @@ pub fn order_of<'t>(
         steps.extend_from_slice(&found.steps)?;
         first.extend_from_slice(&found.first)?;
     }
-    steps.sort()?;
-    let placed = place_all(alloc, points, &values, known.ones, &steps)?;
+    steps.sort_by_key(|step| step.0)?;
+    let mut placed: Vec<Placed<'t>> = Vec::with_capacity(alloc, steps.len())?;
+    for step in &steps {
+        let next = step.1;
+        let each = match points.points.get(next.point as usize) {
+            Some(point) => point.each,
+            None => false,
+        };
+        // Blocks of a point that are done one after the other stand as one.
+        if let Some(last) = placed.last_mut() {
+            if each
+                && matches!(&next.value, Value::AsIs)
+                && last.point == next.point
+                && last.first.saturating_add(last.blocks) == next.first
+            {
+                last.blocks = last.blocks.saturating_add(next.blocks);
+                continue;
+            }
+        }
+        placed.push(next)?;
+    }
     Ok(Ok(Order { first, placed }))
 }

@@ -1,28 +1,42 @@
 //! Which acts come before which.
-use crate::numbers::{Numbers, to_u32};
+use crate::numbers::to_u32;
 use crate::order::state::State;
 use nvm_record::NoMemory;
 use std::alloc::Global;
+use std::ops::Range;
 
 /// How many words all rows may have together.
 const MOST_WORDS: u32 = 1 << 23;
+
+/// What the times of a node say.
+#[derive(Clone, Copy, Debug)]
+struct Row {
+    until: u32,
+    /// The first and the last word of what they leave open.
+    first: u32,
+    last: u32,
+    /// Where the row of those words stands among all words.
+    place: u32,
+}
+
+/// Where there is no node.
+const NO_ROW: Row = Row {
+    until: 0,
+    first: 0,
+    last: 0,
+    place: 0,
+};
 
 /// What comes before what among nodes, which are acts by beginning. It is closed: what comes before something comes before all that this
 /// comes before. Of each node only those are kept that its times leave open.
 #[derive(Drop)]
 pub struct Precedence {
-    /// The beginnings of the nodes, and their ends.
-    from: Numbers,
-    until: Numbers,
-    /// The first and the last word of each node's rows, and where its row stands among all words.
-    first: Numbers,
-    last: Numbers,
-    row: Numbers,
+    rows: Vec<Row>,
     /// How many words there are. Rows of what comes after a node come first, and those of what comes before it so many words later.
     words: u32,
-    bits: State,
+    pub bits: State,
     /// Pairs that were found and whose consequences weren't drawn yet.
-    found: Vec<(u32, u32)>,
+    pub found: Vec<(u32, u32)>,
     /// Whether something would have to come before itself.
     pub is_absurd: bool,
 }
@@ -44,79 +58,97 @@ pub fn take_node(word: u32, left: &mut u32) -> Option<u32> {
     Some(node)
 }
 
+impl Row {
+    /// Where a word of what comes after the node stands.
+    fn at(&self, word: u32) -> u32 {
+        self.place.saturating_add(word.saturating_sub(self.first))
+    }
+}
+
 impl Precedence {
-    /// Nodes of these beginnings, rising, and ends, of which nothing but their times is known. None where there are too many.
-    pub fn new(alloc: Global, times: &Vec<(u32, u32)>) -> Result<Option<Precedence>, NoMemory> {
-        let count = times.len();
-        let mut made = Precedence {
-            from: Numbers::new(alloc, count, 0)?,
-            until: Numbers::new(alloc, count, 0)?,
-            first: Numbers::new(alloc, count, 0)?,
-            last: Numbers::new(alloc, count, 0)?,
-            row: Numbers::new(alloc, count, 0)?,
+    /// No nodes.
+    pub fn none(alloc: Global) -> Result<Precedence, NoMemory> {
+        Ok(Precedence {
+            rows: Vec::new(alloc),
             words: 0,
             bits: State::new(alloc, 0)?,
             found: Vec::new(alloc),
             is_absurd: false,
-        };
-        let ends = ends_up_to(alloc, times)?;
-        for node in 0..to_u32(count) {
-            let Some(time) = times.get(node as usize) else {
-                break;
-            };
+        })
+    }
+
+    /// Nodes of these beginnings, rising, and ends, of which nothing but their times is known. No nodes where there are too many.
+    pub fn new(alloc: Global, times: &Vec<(u32, u32)>) -> Result<Precedence, NoMemory> {
+        let mut made = Precedence::none(alloc)?;
+        // The latest end among the nodes up to each.
+        let mut ends = Vec::with_capacity(alloc, times.len())?;
+        let mut latest = 0;
+        for time in times {
+            latest = time.1.max(latest);
+            ends.push(latest)?;
+        }
+        for time in times {
             let (from, until) = *time;
             let first = to_u32(ends.partition_point(|end| *end < from)) / 32;
             let begun = to_u32(times.partition_point(|time| time.0 <= until));
             let last = begun.saturating_sub(1) / 32;
-            made.from.put(node, from);
-            made.until.put(node, until);
-            made.first.put(node, first);
-            made.last.put(node, last);
-            made.row.put(node, made.words);
+            made.rows.push(Row {
+                until,
+                first,
+                last,
+                place: made.words,
+            })?;
             let words = last.saturating_sub(first).saturating_add(1);
             made.words = made.words.saturating_add(words);
             if made.words > MOST_WORDS {
-                return Ok(None);
+                return Precedence::none(alloc);
             }
         }
-        let words = (made.words as usize).saturating_mul(2);
-        made.bits = State::new(
-            alloc,
-            words
-                .saturating_add(count / 32)
-                .saturating_add(2)
-                .saturating_add(count.saturating_mul(2)),
-        )?;
-        made.note_times()?;
-        Ok(Some(made))
+        let state_len = made.turn_place(made.count()).saturating_add(1);
+        made.bits = State::new(alloc, state_len as usize)?;
+        made.note_times(times)?;
+        Ok(made)
     }
 
     /// How many nodes there are.
     pub fn count(&self) -> u32 {
-        to_u32(self.from.len())
+        to_u32(self.rows.len())
+    }
+
+    /// What the node's times say.
+    fn row(&self, node: u32) -> Row {
+        match self.rows.get(node as usize) {
+            Some(row) => *row,
+            None => NO_ROW,
+        }
     }
 
     /// Notes what the times say where rows have it.
-    fn note_times(&mut self) -> Result<(), NoMemory> {
+    fn note_times(&mut self, times: &Vec<(u32, u32)>) -> Result<(), NoMemory> {
         for node in 0..self.count() {
+            let Some(time) = times.get(node as usize) else {
+                break;
+            };
+            let (from, until) = *time;
             let place = self.end_place(node);
-            self.bits.set(place, self.until.at(node))?;
-            for word in self.first.at(node)..self.last.at(node).saturating_add(1) {
+            self.bits.set(place, until)?;
+            let row = self.row(node);
+            for word in row.first..row.last.saturating_add(1) {
                 let mut before = 0u32;
                 let mut after = 0u32;
                 for place in 0..32u32 {
                     let other = word.saturating_mul(32).saturating_add(place);
-                    if other >= self.count() {
+                    let Some(time) = times.get(other as usize) else {
                         break;
-                    }
-                    if self.until.at(other) < self.from.at(node) {
+                    };
+                    if time.1 < from {
                         before |= bit(other);
                     }
-                    if self.until.at(node) < self.from.at(other) {
+                    if until < time.0 {
                         after |= bit(other);
                     }
                 }
-                let place = self.place(node, word);
+                let place = row.at(word);
                 self.bits.set(place, after)?;
                 self.bits.set(place.saturating_add(self.words), before)?;
             }
@@ -124,15 +156,15 @@ impl Precedence {
         Ok(())
     }
 
-    /// Where a word of a node's row of what comes after it stands.
-    fn place(&self, node: u32, word: u32) -> u32 {
-        self.row
-            .at(node)
-            .saturating_add(word.saturating_sub(self.first.at(node)))
-    }
-
-    /// The nodes of a word.
-    fn nodes_of(&self, word: u32) -> u32 {
+    /// Which nodes of a word come after the node.
+    fn after(&self, node: u32, word: u32) -> u32 {
+        let row = self.row(node);
+        if word < row.first {
+            return 0;
+        }
+        if word <= row.last {
+            return self.bits.at(row.at(word));
+        }
         let left = self.count().saturating_sub(word.saturating_mul(32));
         if left >= 32 {
             u32::MAX
@@ -141,37 +173,26 @@ impl Precedence {
         }
     }
 
-    /// Which nodes of a word come after the node.
-    fn after(&self, node: u32, word: u32) -> u32 {
-        if word < self.first.at(node) {
-            return 0;
-        }
-        if word > self.last.at(node) {
-            return self.nodes_of(word);
-        }
-        self.bits.at(self.place(node, word))
-    }
-
     /// Which nodes of a word come before the node.
     fn before(&self, node: u32, word: u32) -> u32 {
-        if word < self.first.at(node) {
+        let row = self.row(node);
+        if word < row.first {
             return u32::MAX;
         }
-        if word > self.last.at(node) {
+        if word > row.last {
             return 0;
         }
-        self.bits
-            .at(self.place(node, word).saturating_add(self.words))
+        self.bits.at(row.at(word).saturating_add(self.words))
     }
 
     /// The first node of the first word of what the node's times leave open.
     pub fn first_beside(&self, node: u32) -> u32 {
-        self.first.at(node).saturating_mul(32)
+        self.row(node).first.saturating_mul(32)
     }
 
     /// The last word of what the node's times leave open.
     pub fn last_word(&self, node: u32) -> u32 {
-        self.last.at(node)
+        self.row(node).last
     }
 
     /// Whether the one comes before the other.
@@ -206,9 +227,10 @@ impl Precedence {
             .saturating_add(node)
     }
 
-    /// The first word of the node's rows that may have nodes which aren't done.
-    pub fn first_open(&self, node: u32) -> u32 {
-        self.first.at(node).max(self.bits.at(self.open_place()))
+    /// The words of the node's rows that may have nodes which aren't done.
+    pub fn open_words(&self, node: u32) -> Range<u32> {
+        let row = self.row(node);
+        row.first.max(self.bits.at(self.open_place()))..row.last.saturating_add(1)
     }
 
     /// Where the first word stands that has nodes which aren't done.
@@ -219,6 +241,16 @@ impl Precedence {
     /// Which nodes of a word have to be done before the node and aren't.
     pub fn missing(&self, node: u32, word: u32) -> u32 {
         self.before(node, word) & !self.bits.at(self.done_place(word))
+    }
+
+    /// Whether something that isn't done has to be before the node.
+    pub fn is_held_up(&self, node: u32) -> bool {
+        for word in self.open_words(node) {
+            if self.missing(node, word) != 0 {
+                return true;
+            }
+        }
+        false
     }
 
     /// Whether the node is done.
@@ -233,11 +265,7 @@ impl Precedence {
 
     /// Notes that the node is done now, in such a turn, counted from 1: after all that are done, and before all that aren't.
     pub fn set_done(&mut self, node: u32, turn: u32) -> Result<(), NoMemory> {
-        for word in self.first_open(node)..self.last.at(node).saturating_add(1) {
-            if self.missing(node, word) != 0 {
-                self.is_absurd = true;
-            }
-        }
+        self.is_absurd = self.is_absurd || self.is_held_up(node);
         let place = self.done_place(node / 32);
         let done = self.bits.at(place) | bit(node);
         self.bits.set(place, done)?;
@@ -252,21 +280,6 @@ impl Precedence {
             open = word.saturating_add(1);
         }
         self.bits.set(place, open)
-    }
-
-    /// From now on what is noted can be taken back.
-    pub fn keep(&mut self) {
-        self.bits.keep();
-    }
-
-    /// A pair whose consequences weren't drawn yet.
-    pub fn next_found(&mut self) -> Option<(u32, u32)> {
-        self.found.pop()
-    }
-
-    /// A mark to go back to.
-    pub fn mark(&self) -> u32 {
-        self.bits.mark()
     }
 
     /// Goes back to the mark.
@@ -285,7 +298,7 @@ impl Precedence {
             self.is_absurd = true;
             return Ok(());
         }
-        for word in self.first_open(other)..self.last.at(other).saturating_add(1) {
+        for word in self.open_words(other) {
             let own = if word == one / 32 { bit(one) } else { 0 };
             let known = self.before(other, word) | self.bits.at(self.done_place(word));
             let mut left = (self.before(one, word) | own) & !known;
@@ -301,57 +314,40 @@ impl Precedence {
 
     /// Notes that the node comes before `other` and all after that.
     fn add_all_after(&mut self, node: u32, other: u32) -> Result<(), NoMemory> {
-        let first = self.first_open(node).max(self.first.at(other));
-        let mut place = self.place(node, first);
-        for word in first..self.last.at(node).saturating_add(1) {
+        let row = self.row(node);
+        let open = self.open_words(node);
+        for word in open.start.max(self.row(other).first)..open.end {
             let own = if word == other / 32 { bit(other) } else { 0 };
-            let left = (self.after(other, word) | own) & !self.bits.at(place);
-            if left != 0 {
-                self.note_after(node, word, left)?;
+            let known = self.bits.at(row.at(word));
+            let mut left = (self.after(other, word) | own) & !known;
+            if left == 0 {
+                continue;
             }
-            place = place.saturating_add(1);
+            self.bits.set(row.at(word), known | left)?;
+            let mut end = self.end(node);
+            for _ in 0..32 {
+                let Some(later) = take_node(word, &mut left) else {
+                    break;
+                };
+                self.note_before(later, node)?;
+                self.found.push((node, later))?;
+                end = end.min(self.row(later).until);
+            }
+            let place = self.end_place(node);
+            self.bits.set(place, end)?;
         }
         Ok(())
     }
 
-    /// Notes that these nodes of a word come after the node, of which that wasn't known.
-    fn note_after(&mut self, node: u32, word: u32, nodes: u32) -> Result<(), NoMemory> {
-        let place = self.place(node, word);
-        let known = self.bits.at(place);
-        self.bits.set(place, known | nodes)?;
-        let mut end = self.end(node);
-        let mut left = nodes;
-        for _ in 0..32 {
-            let Some(later) = take_node(word, &mut left) else {
-                break;
-            };
-            self.note_before(later, node)?;
-            self.found.push((node, later))?;
-            end = end.min(self.until.at(later));
-        }
-        let place = self.end_place(node);
-        self.bits.set(place, end)
-    }
-
     /// Notes in the node's row that another comes before it.
     fn note_before(&mut self, node: u32, other: u32) -> Result<(), NoMemory> {
+        let row = self.row(node);
         let word = other / 32;
-        if word < self.first.at(node) || word > self.last.at(node) {
+        if word < row.first || word > row.last {
             return Ok(());
         }
-        let place = self.place(node, word).saturating_add(self.words);
+        let place = row.at(word).saturating_add(self.words);
         let known = self.bits.at(place);
         self.bits.set(place, known | bit(other))
     }
-}
-
-/// The latest end among the nodes up to each.
-fn ends_up_to(alloc: Global, times: &Vec<(u32, u32)>) -> Result<Vec<u32>, NoMemory> {
-    let mut ends = Vec::with_capacity(alloc, times.len())?;
-    let mut latest = 0;
-    for time in times {
-        latest = time.1.max(latest);
-        ends.push(latest)?;
-    }
-    Ok(ends)
 }

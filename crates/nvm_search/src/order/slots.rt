@@ -1,17 +1,20 @@
 //! The contents of a part's blocks.
 use crate::numbers::{MARK, ZERO, to_u32};
 use crate::order::acts::{NONE, Wants};
+use crate::order::making::Known;
 use nvm_record::NoMemory;
 use nvm_standard::Deallocated;
+use nvm_trace::Start;
+use std::ops::Range;
 
 /// The value of what nobody knows.
 pub const UNKNOWN: u32 = u32::MAX;
 
 /// A content of a block.
 #[derive(Clone, Copy, Debug, PartialEq, Eq, PartialOrd, Ord)]
-pub struct Slot {
-    pub block: u32,
-    pub value: u32,
+struct Slot {
+    block: u32,
+    value: u32,
 }
 
 /// All contents that blocks of a part may be found to have, block by block. A slot is a place among them.
@@ -24,19 +27,36 @@ pub struct Slots {
 }
 
 impl Slots {
-    /// Those slots, each once.
-    pub fn new(
-        mut slots: Vec<Slot>,
-        deallocated: Deallocated,
-        ones: u32,
-    ) -> Result<Slots, NoMemory> {
-        slots.sort()?;
-        slots.dedup();
+    /// No slots but those of each block that may be asked for whatever the acts are.
+    pub fn new(known: &Known<'_, '_>, blocks: u32) -> Result<Slots, NoMemory> {
+        let mut slots = Vec::new(known.alloc);
+        for block in 0..blocks {
+            for value in [ZERO, MARK, known.ones, known.fresh] {
+                slots.push(Slot { block, value })?;
+            }
+            if known.points.start == Start::Unknown {
+                let value = UNKNOWN;
+                slots.push(Slot { block, value })?;
+            }
+        }
         Ok(Slots {
             slots,
-            deallocated,
-            ones,
+            deallocated: known.points.deallocated,
+            ones: known.ones,
         })
+    }
+
+    /// Adds the slot of a block's value. Behind the last the slots have to be sorted.
+    pub fn add(&mut self, block: u32, value: u32) -> Result<(), NoMemory> {
+        self.slots.push(Slot { block, value })?;
+        Ok(())
+    }
+
+    /// Sorts the slots, each once.
+    pub fn sort(&mut self) -> Result<(), NoMemory> {
+        self.slots.sort()?;
+        self.slots.dedup();
+        Ok(())
     }
 
     /// How many there are.
@@ -48,6 +68,11 @@ impl Slots {
     pub fn of(&self, block: u32, value: u32) -> u32 {
         let slot = Slot { block, value };
         to_u32(self.slots.partition_point(|known| *known < slot))
+    }
+
+    /// The slots of a block.
+    pub fn all_of(&self, block: u32) -> Range<u32> {
+        self.of(block, 0)..self.of(block.saturating_add(1), 0)
     }
 
     /// The value of a slot.

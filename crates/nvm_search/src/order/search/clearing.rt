@@ -1,6 +1,7 @@
 //! What has to be done before an act that puts something.
 use crate::order::acts::{Act, Gives, NONE, Wants};
-use crate::order::lists::Lists;
+use crate::order::board::Field;
+use crate::order::lists::Group;
 use crate::order::search::Search;
 use nvm_record::NoMemory;
 
@@ -9,12 +10,12 @@ impl<'p> Search<'p> {
     pub(super) fn is_clear(&mut self, number: u32, act: &Act, slot: u32) -> Result<bool, NoMemory> {
         let targets = self.targets.len();
         for at in act.cell..act.cells_end() {
-            let cell = self.part.cell(at);
-            let given = self.given(&cell, slot);
+            let cell = self.board.part.cell(at);
+            let given = self.board.given(&cell, slot);
             if given == NONE {
                 continue;
             }
-            let stays = given == self.board(cell.block);
+            let stays = given == self.board.content(cell.block);
             if !(stays || self.is_left(number, cell.block)?)
                 || !self.is_in_time(number, cell.block, given)?
             {
@@ -23,7 +24,7 @@ impl<'p> Search<'p> {
             }
         }
         if act.cells > 1 {
-            self.aim_at_tied(act)?;
+            self.parts_tied(act, true)?;
         }
         if act.sure {
             self.aim_at_deallocates(act)?;
@@ -33,21 +34,22 @@ impl<'p> Search<'p> {
 
     /// Whether each that has to find what is in the block now can do so before this act, or after another that puts it again.
     fn is_left(&mut self, number: u32, block: u32) -> Result<bool, NoMemory> {
-        let part = self.part;
-        let slot = self.board(block);
-        for entry in self.acts_before(&part.lists.finders, slot, NONE)? {
+        let part = self.board.part;
+        let slot = self.board.content(block);
+        for entry in self.board.acts_of(Group::Finders(slot))? {
             let finder = entry.act;
-            if finder == number || self.is_over(finder) {
+            if finder == number || self.board.is_over(finder) {
                 continue;
             }
-            let is_begun = entry.time <= self.horizon;
-            if self.is_supplied(slot, number, finder, self.end_of(finder), 0)? {
+            let is_begun = entry.time <= self.board.horizon;
+            let until = self.known.end(finder);
+            if self.is_supplied(slot, number, finder, until, 0)? {
                 if is_begun {
                     continue;
                 }
                 break;
             }
-            self.blame(self.setter(block))?;
+            self.blame(Field::Setter(block))?;
             self.blame_givers(slot)?;
             if !is_begun {
                 return Ok(false);
@@ -60,38 +62,28 @@ impl<'p> Search<'p> {
     /// Until when what the act puts in the block has to stay there: the latest beginning of those that find it and for whom nobody else
     /// puts it.
     fn stays_until(&mut self, number: u32, block: u32, slot: u32) -> Result<u32, NoMemory> {
-        let part = self.part;
-        let given = self.next_of(&part.lists.givers, slot, number)?;
-        let supplied = given.min(self.next_of(&part.lists.anything, block, number)?);
-        let finders = &part.lists.finders;
-        let head = self.head(finders, slot)?;
-        let end = finders.end(slot);
-        if supplied == NONE {
-            for at in (head..end).rev() {
-                let finder = finders.act(at);
-                if finder != number && !self.is_over(finder) {
-                    return Ok(finders.time(at));
-                }
-            }
-            return Ok(0);
-        }
-        let mut latest = 0;
-        for at in head..end {
-            if finders.time(at) >= supplied {
-                break;
-            }
-            let finder = finders.act(at);
-            if finder != number && !self.is_over(finder) && self.end_of(finder) < supplied {
-                latest = latest.max(finders.time(at));
+        let given = self.next_of(Group::Givers(slot), number)?;
+        let supplied = given.min(self.next_of(Group::Anything(block), number)?);
+        for entry in self
+            .board
+            .acts_before(Group::Finders(slot), supplied)?
+            .iter()
+            .rev()
+        {
+            if entry.act != number
+                && !self.board.is_over(entry.act)
+                && (supplied == NONE || self.known.end(entry.act) < supplied)
+            {
+                return Ok(entry.time);
             }
         }
-        Ok(latest)
+        Ok(0)
     }
 
-    /// The time of the first act of a list's group that isn't over, but for this one.
-    fn next_of(&mut self, list: &'p Lists, group: u32, but: u32) -> Result<u32, NoMemory> {
-        for entry in self.acts_before(list, group, NONE)? {
-            if entry.act != but && !self.is_over(entry.act) {
+    /// The time of the first act of a group that isn't over, but for this one.
+    fn next_of(&mut self, group: Group, but: u32) -> Result<u32, NoMemory> {
+        for entry in self.board.acts_of(group)? {
+            if entry.act != but && !self.board.is_over(entry.act) {
                 return Ok(entry.time);
             }
         }
@@ -100,11 +92,11 @@ impl<'p> Search<'p> {
 
     /// Whether each act of the block that has to be done while what this one puts stays there can be done before.
     fn is_in_time(&mut self, number: u32, block: u32, slot: u32) -> Result<bool, NoMemory> {
-        let part = self.part;
+        let part = self.board.part;
         let until = self.stays_until(number, block, slot)?;
-        for entry in self.acts_before(&part.lists.sure, block, until)? {
+        for entry in self.board.acts_before(Group::SureOf(block), until)? {
             let other = entry.act;
-            if other == number || self.is_over(other) {
+            if other == number || self.board.is_over(other) {
                 continue;
             }
             let act = part.act(other);
@@ -116,7 +108,7 @@ impl<'p> Search<'p> {
             if cell.gives == Gives::Slot(slot) || can_be_after {
                 continue;
             }
-            if act.from > self.horizon {
+            if act.from > self.board.horizon {
                 return Ok(false);
             }
             self.aim(other, NONE)?;
@@ -124,33 +116,36 @@ impl<'p> Search<'p> {
         Ok(true)
     }
 
-    /// Makes targets of tied acts that aren't done and of whose point another block of the entry is done.
-    fn aim_at_tied(&mut self, entry: &Act) -> Result<(), NoMemory> {
-        let part = self.part;
+    /// Whether the entry would come between two blocks of a tied act's point. `aims`: such acts are made targets.
+    pub(super) fn parts_tied(&mut self, entry: &Act, aims: bool) -> Result<bool, NoMemory> {
+        let part = self.board.part;
+        let mut parts = false;
         for at in entry.cell..entry.cells_end() {
-            let block = part.cell(at).block;
-            for tied in self.acts_begun(&part.lists.tied, block)? {
-                let number = tied.act;
-                if self.is_over(number) {
+            for tied in self.board.acts_begun(Group::Tied(part.cell(at).block))? {
+                if self.board.is_over(tied.act) {
                     continue;
                 }
-                let step = self.begun_in(entry, &part.act(number));
-                if step != 0 {
-                    self.blame(step)?;
-                    self.aim(number, NONE)?;
+                let step = self.begun_in(entry, &part.act(tied.act));
+                if step != 0 && aims {
+                    self.conflict.push(step)?;
+                    self.aim(tied.act, NONE)?;
                 }
+                parts = parts || step != 0;
             }
         }
-        Ok(())
+        Ok(parts)
     }
 
     /// The last step at which the act's point was done in a block of the entry, counted from 1, or 0.
     pub(super) fn begun_in(&self, entry: &Act, act: &Act) -> u32 {
+        let part = self.board.part;
         let mut last = 0u32;
         for sibling in act.sibling..act.siblings_end() {
-            let block = self.part.cell(self.part.act(sibling).cell).block;
-            if self.is_placed(sibling) && self.part.cell_of(entry, block).is_some() {
-                last = last.max(self.state.at(sibling));
+            if part
+                .cell_of(entry, part.cell(part.act(sibling).cell).block)
+                .is_some()
+            {
+                last = last.max(self.board.at(Field::Step(sibling)));
             }
         }
         last
@@ -158,12 +153,12 @@ impl<'p> Search<'p> {
 
     /// Makes targets of Deallocates that somebody needs and that couldn't be done any more after the act.
     fn aim_at_deallocates(&mut self, act: &Act) -> Result<(), NoMemory> {
-        let part = self.part;
+        let part = self.board.part;
         for at in act.cell..act.cells_end() {
             let block = part.cell(at).block;
-            for entry in self.acts_before(&part.lists.deallocates, block, act.from)? {
+            for entry in self.board.acts_before(Group::Deallocates(block), act.from)? {
                 let number = entry.act;
-                if self.is_over(number) {
+                if self.board.is_over(number) {
                     continue;
                 }
                 for slot in part.slots.deallocated(block) {

@@ -7,15 +7,6 @@ const MOST: usize = 1 << 20;
 
 const FEW: usize = 1 << 8;
 
-/// A number of a pair of numbers, of which each bit hangs on all of theirs.
-pub fn key(one: u32, other: u32) -> u64 {
-    let mut mixed = (u64::from(other) << 32) | u64::from(one);
-    for factor in [0xbf58_476d_1ce4_e5b9u64, 0x94d0_49bb_1331_11ebu64] {
-        mixed = (mixed ^ (mixed >> 29)).wrapping_mul(factor);
-    }
-    mixed ^ (mixed >> 32)
-}
-
 /// Numbers of states. A later one may take the place of an earlier one. Two states of one number would be taken for one: an order may
 /// be missed so, and none is made up.
 #[derive(Drop)]

@@ -1,5 +1,7 @@
 //! Which acts can be next: the one that has to be done first, or what has to be done before it.
 use crate::order::acts::{Act, Cell, Gives, NONE, Wants};
+use crate::order::board::Field;
+use crate::order::lists::Group;
 use crate::order::search::{Move, Search, Target};
 use nvm_record::NoMemory;
 
@@ -23,10 +25,10 @@ impl<'p> Search<'p> {
 
     /// Finds the moves that lead to any change that has to be done, but for those from `start` on.
     pub(super) fn find_all_moves(&mut self, start: usize) -> Result<(), NoMemory> {
-        let part = self.part;
+        let part = self.board.part;
         self.skip_moves(start);
-        for entry in self.acts_begun(&part.lists.changes, 0)? {
-            if !self.is_over(entry.act) {
+        for entry in self.board.acts_begun(Group::Changes)? {
+            if !self.board.is_over(entry.act) {
                 self.aim(entry.act, NONE)?;
                 self.visit_all()?;
             }
@@ -59,8 +61,8 @@ impl<'p> Search<'p> {
     fn visit(&mut self, target: Target) -> Result<(), NoMemory> {
         self.left_in_all = self.left_in_all.saturating_sub(1);
         let number = target.act;
-        let act = self.part.act(number);
-        if self.is_over(number) || act.from > self.horizon {
+        let act = self.board.part.act(number);
+        if self.board.is_over(number) || act.from > self.board.horizon {
             return Ok(());
         }
         if !target.apart {
@@ -69,7 +71,9 @@ impl<'p> Search<'p> {
             }
             self.seen.put(number, self.round);
         }
-        if self.aim_at_missing(number)?
+        let targets = self.targets.len();
+        self.known.aim_at_missing(number, &mut self.targets)?;
+        if self.targets.len() > targets
             || self.has_to_wait(&act)?
             || !self.can_be_next(target, &act)?
         {
@@ -82,25 +86,13 @@ impl<'p> Search<'p> {
         Ok(())
     }
 
-    /// Whether something that isn't done has to come before the act. That is made a target.
-    fn aim_at_missing(&mut self, number: u32) -> Result<bool, NoMemory> {
-        let mut missing = Vec::new(self.alloc);
-        if let Some(known) = &self.known {
-            known.missing_before(self.part, number, &mut missing)?;
-        }
-        for other in &missing {
-            self.aim(other.act, other.slot)?;
-        }
-        Ok(!missing.is_empty())
-    }
-
     /// Whether something has to be done before the act, as far as its times and what it finds go. That is made a target.
     fn has_to_wait(&mut self, act: &Act) -> Result<bool, NoMemory> {
-        if act.before != NONE && !self.is_placed(act.before) {
+        if self.board.is_too_early(act) {
             self.aim(act.before, NONE)?;
             return Ok(true);
         }
-        if !self.fits_all(act, false) {
+        if !self.board.fits_all(act, false) {
             self.aim_at_givers(act)?;
             return Ok(true);
         }
@@ -127,11 +119,11 @@ impl<'p> Search<'p> {
 
     /// Where blocks of its point don't have yet what was found there, makes targets of those who put it, and then of the act apart.
     fn aim_at_siblings(&mut self, target: Target, act: &Act) -> Result<bool, NoMemory> {
-        let part = self.part;
+        let part = self.board.part;
         let mut is_apart = false;
         for sibling in act.sibling..act.siblings_end() {
             let other = part.act(sibling);
-            if self.is_placed(sibling) || self.fits_all(&other, false) {
+            if self.board.is_placed(sibling) || self.board.fits_all(&other, false) {
                 continue;
             }
             if !is_apart {
@@ -149,14 +141,14 @@ impl<'p> Search<'p> {
     /// Makes targets of those who put what the act finds and what isn't there.
     fn aim_at_givers(&mut self, act: &Act) -> Result<(), NoMemory> {
         for at in act.cell..act.cells_end() {
-            let cell = self.part.cell(at);
-            if self.fits(&cell, false) {
+            let cell = self.board.part.cell(at);
+            if self.board.fits(&cell, false) {
                 continue;
             }
             let other = match cell.wants {
                 Wants::Nothing => continue,
                 Wants::Slot(slot) => {
-                    self.blame(self.loser(slot))?;
+                    self.blame(Field::Loser(slot))?;
                     self.blame_givers(slot)?;
                     self.aim_at_slot(slot)?;
                     continue;
@@ -164,7 +156,7 @@ impl<'p> Search<'p> {
                 Wants::AnyBytes => NONE,
                 Wants::OtherThan(other) => other,
             };
-            self.blame(self.setter(cell.block))?;
+            self.blame(Field::Setter(cell.block))?;
             self.aim_at_others(&cell, other)?;
         }
         Ok(())
@@ -172,15 +164,15 @@ impl<'p> Search<'p> {
 
     /// Makes targets of those who put the slot: those that surely do come first.
     fn aim_at_slot(&mut self, slot: u32) -> Result<(), NoMemory> {
-        let part = self.part;
+        let part = self.board.part;
         let block = part.slots.block(slot);
-        for entry in self.acts_begun(&part.lists.anything, block)? {
+        for entry in self.board.acts_begun(Group::Anything(block))? {
             self.aim(entry.act, slot)?;
         }
-        let givers = self.acts_begun(&part.lists.givers, slot)?;
+        let givers = self.board.acts_begun(Group::Givers(slot))?;
         for sure in [false, true] {
             for entry in givers {
-                if part.act(entry.act).sure == sure && !self.is_over(entry.act) {
+                if part.act(entry.act).sure == sure && !self.board.is_over(entry.act) {
                     self.aim(entry.act, slot)?;
                 }
             }
@@ -190,8 +182,8 @@ impl<'p> Search<'p> {
 
     /// Makes targets of those who put bytes in the cell's block other than a slot's.
     fn aim_at_others(&mut self, cell: &Cell, other: u32) -> Result<(), NoMemory> {
-        let part = self.part;
-        for entry in self.acts_begun(&part.lists.writers, cell.block)? {
+        let part = self.board.part;
+        for entry in self.board.acts_begun(Group::Writers(cell.block))? {
             let writer = entry.act;
             let Some(given) = part.cell_of(&part.act(writer), cell.block) else {
                 continue;
@@ -199,7 +191,7 @@ impl<'p> Search<'p> {
             let slot = match given.gives {
                 Gives::Nothing => NONE,
                 Gives::Slot(slot) => slot,
-                Gives::Anything => self.other_slot(cell.block, other)?,
+                Gives::Anything => self.board.other_slot(cell.block, other)?,
                 Gives::Deallocated => self.deallocated_slot(cell.block, other)?,
             };
             if slot != NONE && slot != other && !part.slots.is_mark(slot) {
@@ -211,17 +203,20 @@ impl<'p> Search<'p> {
 
     /// Whether each other block of its point can still get what was found there, by one that doesn't put this block, too.
     fn can_be_apart(&mut self, number: u32, act: &Act) -> Result<bool, NoMemory> {
-        let part = self.part;
+        let part = self.board.part;
         for sibling in act.sibling..act.siblings_end() {
             let other = part.act(sibling);
-            if sibling == number || self.is_placed(sibling) || self.fits_all(&other, false) {
+            if sibling == number
+                || self.board.is_placed(sibling)
+                || self.board.fits_all(&other, false)
+            {
                 continue;
             }
             if !self.can_get(&other, act)? {
-                self.blame(self.setter(part.cell(act.cell).block))?;
-                self.blame(self.setter(part.cell(other.cell).block))?;
+                self.blame(Field::Setter(part.cell(act.cell).block))?;
+                self.blame(Field::Setter(part.cell(other.cell).block))?;
                 if let Wants::Slot(slot) = part.cell(other.cell).wants {
-                    self.blame(self.loser(slot))?;
+                    self.blame(Field::Loser(slot))?;
                 }
                 return Ok(false);
             }
@@ -231,19 +226,18 @@ impl<'p> Search<'p> {
 
     /// Whether a block of a point can still get what was found there, by one that doesn't put another block of it that is done then.
     fn can_get(&mut self, act: &Act, done: &Act) -> Result<bool, NoMemory> {
-        let part = self.part;
+        let part = self.board.part;
         let cell = part.cell(act.cell);
         let block = part.cell(done.cell).block;
         let Wants::Slot(slot) = cell.wants else {
             return Ok(true);
         };
-        let anything = self.head(&part.lists.anything, cell.block)?;
-        if anything < part.lists.anything.end(cell.block) {
+        if self.board.first_of(Group::Anything(cell.block))?.act != NONE {
             return Ok(true);
         }
         let time = act.until.saturating_add(1);
-        for entry in self.acts_before(&part.lists.givers, slot, time)? {
-            if self.is_over(entry.act) {
+        for entry in self.board.acts_before(Group::Givers(slot), time)? {
+            if self.board.is_over(entry.act) {
                 continue;
             }
             let giver = part.act(entry.act);
@@ -256,12 +250,12 @@ impl<'p> Search<'p> {
 
     /// What a Deallocate may leave in the block other than a slot: what somebody has to find there, if that is one.
     fn deallocated_slot(&mut self, block: u32, other: u32) -> Result<u32, NoMemory> {
-        let part = self.part;
+        let part = self.board.part;
         let [zeroes, ones] = part.slots.deallocated(block);
         let mut chosen = if zeroes != other { zeroes } else { NONE };
         if ones != NONE && ones != other {
-            let head = self.head(&part.lists.finders, ones)?;
-            if chosen == NONE || head < part.lists.finders.end(ones) {
+            let finder = self.board.first_of(Group::Finders(ones))?;
+            if chosen == NONE || finder.act != NONE {
                 chosen = ones;
             }
         }
