@@ -55,11 +55,11 @@ pub fn contradiction_of(
         Some(last) => last.component,
         None => 0,
     };
-    for number in 1..=components {
+    for number in 0..components {
         if is_short(&best) {
             break;
         }
-        let nodes = nodes_of(&history, &placed, number)?;
+        let nodes = nodes_of(&history, &placed, number.saturating_add(1))?;
         let found = in_stretches(&history, &nodes, most)?;
         best = shorter(best, found);
     }

@@ -274,14 +274,23 @@ pub fn order_of<'t>(
         first.extend_from_slice(&found.first)?;
     }
     steps.sort_by_key(|step| step.0)?;
+    let placed = all_placed(alloc, points, &steps)?;
+    Ok(Ok(Order { first, placed }))
+}
+
+/// The points in this order. Blocks of a point that are done one after the other stand as one.
+fn all_placed<'t>(
+    alloc: Global,
+    points: &Points<'t>,
+    steps: &Vec<(u32, Placed<'t>)>,
+) -> Result<Vec<Placed<'t>>, NoMemory> {
     let mut placed: Vec<Placed<'t>> = Vec::with_capacity(alloc, steps.len())?;
-    for step in &steps {
+    for step in steps {
         let next = step.1;
         let each = match points.points.get(next.point as usize) {
             Some(point) => point.each,
             None => false,
         };
-        // Blocks of a point that are done one after the other stand as one.
         if let Some(last) = placed.last_mut() {
             if each
                 && matches!(&next.value, Value::AsIs)
@@ -294,5 +303,5 @@ pub fn order_of<'t>(
         }
         placed.push(next)?;
     }
-    Ok(Ok(Order { first, placed }))
+    Ok(placed)
 }
