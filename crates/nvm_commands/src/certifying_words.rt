@@ -3,8 +3,8 @@ ghost use Rattle.std.specs.Prelude.{◌≡◌};
 ghost use Rattle.nvm_commands.specs.Asked.{profile_asked};
 
 use crate::front::{
-    Given, Telling, WordFault, flag, json, number_of_32_bits, path_given, path_named, path_option,
-    telling_of, trace, with_numbers,
+    Telling, WordFault, flag, json, number_of_32_bits, number_option, path_given, path_named,
+    path_option, telling_of, trace,
 };
 use clap::{Arg, ArgMatches, Command, Error};
 use nvm_judge::profile_of;
@@ -49,7 +49,9 @@ impl CertifyWords {
 
 /// What the words say.
 pub fn read_certify(alloc: Global, words: &ArgMatches<'_>) -> Result<CertifyWords, WordFault> {
-    let effort = number_of_32_bits(alloc, words, "effort")?;
+    let Some(effort) = number_of_32_bits(alloc, words, "effort")? else {
+        return Err(WordFault::Missing);
+    };
     Ok(CertifyWords {
         telling: telling_of(words),
         data: words.get_flag("data"),
@@ -99,6 +101,9 @@ pub fn certify_command<'a>(alloc: Global) -> Result<Command<'a>, Error> {
         "FILE",
         "Where the order that explains the trace goes, or the contradiction that nothing does",
     );
+    let effort = number_option(alloc, "effort", "How much the searches may try").default_value(
+        "200000",
+    );
     let reads = word_option(
         alloc,
         "reads",
@@ -123,14 +128,10 @@ pub fn certify_command<'a>(alloc: Global) -> Result<Command<'a>, Error> {
         .after_help(
             "TRACE is a trace's file or its text. Orders and contradictions hold a device to what the standard promises, and to nothing more. Each is checked before it is told.",
         );
-    let effort = [(
-        "effort",
-        Given::OrElse("200000"),
-        "How much the searches may try",
-    )];
-    let command = with_numbers(alloc, command.arg(evidence)?, effort.as_slice())?;
     Ok(
         command
+            .arg(evidence)?
+            .arg(effort)?
             .arg(reads)?
             .arg(deallocated)?
             .arg(data)?

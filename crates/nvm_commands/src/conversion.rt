@@ -1,27 +1,27 @@
 ghost use Rattle.std.specs.Prelude.{◌≡◌, Ok, IfOk, IfErr, string_bytes};
 ghost use Rattle.nvm_file.specs.Reading.{record_at};
 ghost use Rattle.nvm_file.specs.TraceFile.{IsTraceFile};
+ghost use Rattle.nvm_list.specs.Lists as lists;
 ghost use Rattle.nvm_commands.specs.Fault.{IsFaultOfList, IsFaultOfFile, IsFaultOfRecord, IsFaultOfTrace};
 ghost use Rattle.nvm_commands.specs.Listed.{begins_as_record, begins_as_trace, IsListFault, HoldsRecord, Lists, ListsCommands, ListsTrace};
-ghost use Rattle.nvm_commands.specs.Ran.{IsFileOf};
 
 use crate::fault::Fault;
 use nvm_audit::Record;
 use nvm_file::{read_record, read_trace};
-use nvm_list::{assemble, list_file};
+use nvm_list::{list_file, read_list};
 use nvm_listing::list_record;
-use nvm_record::{BlockSize, Payload};
+use nvm_record::{BlockSize, Command, Payload};
 use nvm_trace::Trace;
 use nvm_trace_text::text_of_trace;
 use std::alloc::Global;
 use std::mem::forget;
 
-/// The host file of a list's commands, or the list's fault.
-pub fn assembled(alloc: Global, list: &[u8], size: BlockSize) -> Result<Vec<u8>, Fault>
-    ensures file { IfOk result (λ file. IsFileOf size list.now file.items) }
+/// The commands of a list, or the list's fault.
+pub fn commands_of(alloc: Global, list: &[u8], size: BlockSize) -> Result<Vec<Command>, Fault>
+    ensures commands { IfOk result (λ commands. lists.commands size list.now ≡ Ok commands.items) }
     ensures fault { IfErr result (IsFaultOfList size list.now) }
 {
-    Ok(assemble(alloc, list, size)?)
+    Ok(read_list(alloc, list, size)?)
 }
 
 /// What the file at a path holds, as text: a record where it begins with `NVR`, a trace where it begins with `NVT`, and else the

@@ -2,18 +2,41 @@
 ghost use Rattle.std.specs.Prelude.{IfOk};
 ghost use Rattle.nvm_commands.specs.Words.{IsAsked};
 
-use crate::front::{WordFault, file_argument, flag, path_named, size_given, with_numbers};
-use crate::namespace_words::BLOCK;
+use crate::front::{WordFault, file_argument, flag, path_named, size_given};
+use crate::namespace_words::block;
 use crate::words::Asked;
 use clap::{ArgMatches, Command, Error};
 use std::alloc::Global;
+
+/// What `nvq assemble` is asked.
+pub fn assemble_asked(alloc: Global, words: &ArgMatches<'_>) -> Result<Asked, WordFault>
+    ensures { IfOk result IsAsked }
+{
+    let Some(size) = size_given(alloc, words)? else {
+        return Err(WordFault::Missing);
+    };
+    let list = path_named(alloc, words, "list")?;
+    let out = path_named(alloc, words, "out")?;
+    Ok(Asked::Assemble { size, list, out })
+}
+
+/// What `nvq trace` is asked.
+pub fn trace_asked(alloc: Global, words: &ArgMatches<'_>) -> Result<Asked, WordFault>
+    ensures { IfOk result IsAsked }
+{
+    let text = path_named(alloc, words, "text")?;
+    let out = path_named(alloc, words, "out")?;
+    Ok(Asked::Trace { text, out })
+}
 
 /// What `nvq list` is asked.
 pub fn list_asked(alloc: Global, words: &ArgMatches<'_>) -> Result<Asked, WordFault>
     ensures { IfOk result IsAsked }
 {
-    let size = size_given(alloc, words)?;
-    let file = path_named(alloc, words, "file")?;
+    let (Some(size), Some(file)) = (size_given(alloc, words)?, words.get_str("file")) else {
+        return Err(WordFault::Missing);
+    };
+    let file = String::from_str(alloc, file)?;
     if words.get_flag("json") {
         Ok(Asked::ListObjects(file))
     } else {
@@ -31,8 +54,7 @@ pub fn assemble_command<'a>(alloc: Global) -> Result<Command<'a>, Error> {
         "OUT",
         "The host file, or - for standard output",
     );
-    let command = with_numbers(alloc, command, [BLOCK].as_slice())?;
-    Ok(command.arg(list)?.arg(out)?)
+    Ok(command.arg(block(alloc))?.arg(list)?.arg(out)?)
 }
 
 /// `nvq trace`.
@@ -64,6 +86,5 @@ pub fn list_command<'a>(alloc: Global) -> Result<Command<'a>, Error> {
         "FILE",
         "The host file, record or trace, or - for standard input",
     );
-    let command = with_numbers(alloc, command, [BLOCK].as_slice())?;
-    Ok(command.arg(json)?.arg(file)?)
+    Ok(command.arg(block(alloc))?.arg(json)?.arg(file)?)
 }

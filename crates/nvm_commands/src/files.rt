@@ -8,16 +8,17 @@ ghost use Rattle.nvm_commands.specs.Files.{IsReadFault, IsWriteFault};
 ghost use Rattle.nvm_commands.specs.Traced.{SaysTrace, begins_as_file};
 
 use crate::conversion::{record_of, trace_of};
-use crate::failure::{Failure, of_file, of_text, plain};
+use crate::failure::{Failure, of_order, of_record, of_text, of_trace, plain};
 use crate::fault::Fault;
 use crate::front::{
-    FileFault, InputKind, Progress, STANDARD, is_input, is_output, is_read, read_input, write,
-    write_run,
+    FileFault, InputKind, Output, Progress, STANDARD, is_input, is_output, is_read, read_input,
+    write, write_run,
 };
-use crate::hint::{Wanted, instead, refusal};
+use crate::hint::refusal;
 use nvm_audit::Record;
 use nvm_evidence::{Evidence, HeldOrder, read_evidence, read_order};
-use nvm_record::Payload;
+use nvm_file::write_host;
+use nvm_record::{Command, Payload};
 use nvm_trace::Trace;
 use nvm_trace_text::trace_of_text;
 use std::alloc::{AllocError, Global};
@@ -73,7 +74,7 @@ pub fn record_in(alloc: Global, path: &str, file: &Payload) -> Result<Record, Fa
     let named = String::from_str(alloc, path)?;
     match record_of(alloc, named, file) {
         Ok(run) => Ok(run),
-        Err(fault) => Err(of_file(alloc, fault, path, file, Wanted::Record)),
+        Err(fault) => Err(of_record(alloc, fault, path, file.as_slice())),
     }
 }
 
@@ -95,10 +96,7 @@ pub fn order_in<'f>(alloc: Global, path: &str, file: &'f [u8]) -> Result<HeldOrd
     let named = String::from_str(alloc, path)?;
     match read_order(alloc, file) {
         Ok(held) => Ok(held),
-        Err(fault) => {
-            let hint = instead(alloc, path, file, Wanted::Order);
-            Err(Failure::hinted(Fault::of_evidence(named, fault), hint))
-        }
+        Err(fault) => Err(of_order(alloc, Fault::of_evidence(named, fault), path, file)),
     }
 }
 
@@ -143,7 +141,7 @@ fn trace_of_file(alloc: Global, path: &str, file: &Payload) -> Result<Trace, Fai
     let named = String::from_str(alloc, path)?;
     match trace_of(alloc, named, file) {
         Ok(trace) => Ok(trace),
-        Err(fault) => Err(of_file(alloc, fault, path, file, Wanted::Trace)),
+        Err(fault) => Err(of_trace(alloc, fault, path, file.as_slice())),
     }
 }
 
@@ -178,7 +176,38 @@ pub fn write_bytes<R: Files + AllocGlobal + Print + Eprint>(
 ) -> Result<(), Failure>
     ensures { IfErr result (λ failure. IsWriteFault path.now failure.fault) }
 {
-    made(rt.alloc(), path, write(rt, path, bytes, progress))
+    match write(rt, path, bytes, progress) {
+        Ok(()) => Ok(()),
+        Err(fault) => Err(unmade(rt.alloc(), path, fault)),
+    }
+}
+
+/// Writes the host file of commands to a file, or to standard output.
+pub fn write_host_file<R: Files + AllocGlobal + Print + Eprint>(
+    rt: &R,
+    path: &str,
+    commands: &[Command],
+    progress: &Progress<'_, R>,
+) -> Result<(), Failure>
+    ensures { IfErr result (λ failure. IsWriteFault path.now failure.fault) }
+{
+    match host_file_written(rt, path, commands, progress) {
+        Ok(()) => Ok(()),
+        Err(fault) => Err(unmade(rt.alloc(), path, fault)),
+    }
+}
+
+/// The same. A file appears whole or not at all.
+fn host_file_written<R: Files + AllocGlobal + Print + Eprint>(
+    rt: &R,
+    path: &str,
+    commands: &[Command],
+    progress: &Progress<'_, R>,
+) -> Result<(), FileFault> {
+    progress.clear();
+    let mut output = Output::new(rt, path, progress)?;
+    write_host(&mut output, commands)?;
+    output.finish()
 }
 
 /// Writes the record's file. It appears whole or not at all.
@@ -190,7 +219,10 @@ pub fn keep<R: AllocGlobal + Files + Print + Eprint>(
 ) -> Result<(), Failure>
     ensures { IfErr result (λ failure. IsWriteFault path.now failure.fault) }
 {
-    made(rt.alloc(), path, write_run(rt, path, run, progress))
+    match write_run(rt, path, run, progress) {
+        Ok(()) => Ok(()),
+        Err(fault) => Err(unmade(rt.alloc(), path, fault)),
+    }
 }
 
 /// Refuses a path to write at which the file to read is, before anything is read. The hint below the fault says why.
@@ -209,7 +241,7 @@ pub fn check_output<R: Files + AllocGlobal>(
 }
 
 /// Refuses a path to write that is the file which standard output goes to, before anything is written.
-fn check_no_lines<R: Files + AllocGlobal>(rt: &R, out: &str) -> Result<(), Failure>
+pub fn check_no_lines<R: Files + AllocGlobal>(rt: &R, out: &str) -> Result<(), Failure>
     ensures { IfErr result (λ failure. IsWriteFault out.now failure.fault) }
 {
     if is_output(rt, out)? {
@@ -234,14 +266,13 @@ pub fn check_place<R: Files + AllocGlobal>(
     check_no_lines(rt, out)
 }
 
-/// What was written to a path, or the failure of what couldn't be.
-pub fn made<T>(alloc: Global, path: &str, written: Result<T, FileFault>) -> Result<T, Failure>
-    ensures { IfErr result (λ failure. IsWriteFault path.now failure.fault) }
+/// The failure of what couldn't be written to a path.
+pub fn unmade(alloc: Global, path: &str, fault: FileFault) -> Failure
+    ensures { IsWriteFault path.now result.fault }
 {
-    match written {
-        Ok(made) => Ok(made),
-        Err(FileFault::NoMemory) => Err(Failure::from(AllocError)),
-        Err(FileFault::Refused(kind)) => Err(unwritten(alloc, path, refusal(kind))),
+    match fault {
+        FileFault::NoMemory => Failure::from(AllocError),
+        FileFault::Refused(kind) => unwritten(alloc, path, refusal(kind)),
     }
 }
 

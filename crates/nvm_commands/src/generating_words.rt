@@ -2,11 +2,11 @@
 ghost use Rattle.std.specs.Prelude.{◌≤◌, IfOk, length};
 
 use crate::front::{
-    Given, WordFault, file_arguments, number_given, number_of_16_bits, number_of_64_bits,
-    paths_named, with_numbers,
+    WordFault, file_arguments, number_given, number_of_16_bits, number_of_64_bits, number_option,
+    owned,
 };
 use crate::namespace_words::{NamespaceWords, read_namespace, with_namespace};
-use clap::{ArgMatches, Command, Error};
+use clap::{Arg, ArgMatches, Command, Error};
 use nvm_generate::Mix;
 use std::alloc::Global;
 
@@ -26,78 +26,78 @@ pub struct GenerateWords {
 pub fn read_generate(alloc: Global, words: &ArgMatches<'_>) -> Result<GenerateWords, WordFault>
     ensures { IfOk result (λ load. 1 ≤ length load.outs.items) }
 {
-    let seed = number_of_64_bits(alloc, words, "seed")?;
-    let Some(commands) = number_given(alloc, words, "commands", 1, 65_535)? else {
+    let (Some(seed), Some(commands), Some(paths)) = (
+        number_of_64_bits(alloc, words, "seed")?,
+        number_given(alloc, words, "commands", 1, 65_535)?,
+        words.get_strs("out"),
+    ) else {
         return Err(WordFault::Missing);
     };
+    if paths.is_empty() {
+        return Err(WordFault::Missing);
+    }
     Ok(GenerateWords {
         seed,
         commands: commands as u16,
         namespace: read_namespace(alloc, words)?,
         mix: mix_of(alloc, words)?,
-        outs: paths_named(alloc, words, "out")?,
+        outs: owned(alloc, paths)?,
     })
 }
 
 /// The weights of the kinds.
 fn mix_of(alloc: Global, words: &ArgMatches<'_>) -> Result<Mix, WordFault> {
     Ok(Mix {
-        write: number_of_16_bits(alloc, words, "write")?,
-        read: number_of_16_bits(alloc, words, "read")?,
-        compare: number_of_16_bits(alloc, words, "compare")?,
-        pair: number_of_16_bits(alloc, words, "pair")?,
-        zeroes: number_of_16_bits(alloc, words, "zeroes")?,
-        uncorrectable: number_of_16_bits(alloc, words, "uncorrectable")?,
-        deallocate: number_of_16_bits(alloc, words, "deallocate")?,
+        write: weight_of(alloc, words, "write")?,
+        read: weight_of(alloc, words, "read")?,
+        compare: weight_of(alloc, words, "compare")?,
+        pair: weight_of(alloc, words, "pair")?,
+        zeroes: weight_of(alloc, words, "zeroes")?,
+        uncorrectable: weight_of(alloc, words, "uncorrectable")?,
+        deallocate: weight_of(alloc, words, "deallocate")?,
     })
+}
+
+/// The weight of a kind.
+fn weight_of(alloc: Global, words: &ArgMatches<'_>, kind: &'static str) -> Result<u16, WordFault> {
+    number_of_16_bits(alloc, words, kind)?.ok_or(WordFault::Missing)
 }
 
 /// `nvq generate`.
 pub fn generate_command<'a>(alloc: Global) -> Result<Command<'a>, Error> {
-    let command = Command::new(alloc, "generate").about(
-        "Writes lists of commands that find bugs in devices, one for each host",
+    let seed = number_option(alloc, "seed", "The same words and seed give the same lists");
+    let commands = number_option(
+        alloc,
+        "commands",
+        "Number of commands of each list, 1 to 65535",
     );
-    let numbers = [
-        (
-            "seed",
-            Given::OrElse("1"),
-            "The same words and seed give the same lists",
-        ),
-        (
-            "commands",
-            Given::OrElse("1000"),
-            "Number of commands of each list, 1 to 65535",
-        ),
-    ];
-    let command = with_numbers(alloc, command, numbers.as_slice())?;
-    let command = with_namespace(alloc, command, "32")?;
-    let weights = [
-        (
-            "write",
-            Given::OrElse("40"),
-            "Weight of Writes among all kinds; 0 is none",
-        ),
-        ("read", Given::OrElse("40"), "Weight of Reads"),
-        ("compare", Given::OrElse("5"), "Weight of Compares"),
-        (
-            "pair",
-            Given::OrElse("10"),
-            "Weight of fused Compares and Writes",
-        ),
-        ("zeroes", Given::OrElse("3"), "Weight of Write Zeroes"),
-        (
-            "uncorrectable",
-            Given::OrElse("0"),
-            "Weight of Write Uncorrectable",
-        ),
-        ("deallocate", Given::OrElse("0"), "Weight of Deallocates"),
-    ];
-    let command = with_numbers(alloc, command, weights.as_slice())?;
     let outs = file_arguments(
         alloc,
         "out",
         "OUT",
         "Where the lists go, host 1's first; one may be - for standard output",
     );
+    let command = Command::new(alloc, "generate")
+        .about("Writes lists of commands that find bugs in devices, one for each host")
+        .arg(seed.default_value("1"))?
+        .arg(commands.default_value("1000"))?;
+    let command = with_namespace(alloc, command, "32")?
+        .arg(weight(
+            alloc,
+            "write",
+            "40",
+            "Weight of Writes among all kinds; 0 is none",
+        ))?
+        .arg(weight(alloc, "read", "40", "Weight of Reads"))?
+        .arg(weight(alloc, "compare", "5", "Weight of Compares"))?
+        .arg(weight(alloc, "pair", "10", "Weight of fused Compares and Writes"))?
+        .arg(weight(alloc, "zeroes", "3", "Weight of Write Zeroes"))?
+        .arg(weight(alloc, "uncorrectable", "0", "Weight of Write Uncorrectable"))?
+        .arg(weight(alloc, "deallocate", "0", "Weight of Deallocates"))?;
     Ok(command.arg(outs)?)
+}
+
+/// How often a kind is asked for, relative to the others.
+fn weight<'a>(alloc: Global, name: &'a str, value: &'a str, help: &'a str) -> Arg<'a> {
+    number_option(alloc, name, help).default_value(value)
 }

@@ -1,12 +1,11 @@
 //! The words that say what the namespace is like, of `nvq run` and `nvq generate`.
 
 use crate::front::{
-    Given, NABO, NABSN, NSZE, WordFault, number_given, number_of_16_bits, number_of_64_bits,
-    size_given, with_numbers,
+    WordFault, nabo, nabsn, nsze, number_of_16_bits, number_of_64_bits, number_option, size_given,
 };
-use clap::{ArgMatches, Command};
+use clap::{Arg, ArgMatches, Command, Error};
 use nvm_record::BlockSize;
-use std::alloc::{AllocError, Global};
+use std::alloc::Global;
 
 /// The numbers of the namespace.
 #[derive(Clone, Copy)]
@@ -23,61 +22,64 @@ pub struct NamespaceWords {
 
 /// What the words say.
 pub fn read_namespace(alloc: Global, words: &ArgMatches<'_>) -> Result<NamespaceWords, WordFault> {
-    let size = size_given(alloc, words)?;
-    let nsze = number_of_64_bits(alloc, words, "nsze")?;
-    let nabsn = number_of_16_bits(alloc, words, "nabsn")?;
+    let (Some(size), Some(nsze), Some(nabsn), Some(nabo)) = (
+        size_given(alloc, words)?,
+        number_of_64_bits(alloc, words, "nsze")?,
+        number_of_16_bits(alloc, words, "nabsn")?,
+        number_of_16_bits(alloc, words, "nabo")?,
+    ) else {
+        return Err(WordFault::Missing);
+    };
+    let nawun = number_of_16_bits(alloc, words, "nawun")?;
+    let nacwu = number_of_16_bits(alloc, words, "nacwu")?;
     Ok(NamespaceWords {
         size,
         nsze,
         nabsn,
-        nabo: number_of_16_bits(alloc, words, "nabo")?,
-        nawun: unit_given(alloc, words, "nawun", nabsn)?,
-        nacwu: unit_given(alloc, words, "nacwu", nabsn)?,
+        nabo,
+        nawun: nawun.unwrap_or(whole_unit(nabsn)),
+        nacwu: nacwu.unwrap_or(whole_unit(nabsn)),
     })
 }
 
-/// The zeroes-based number of blocks that an option has, or else that of a whole unit. Without boundaries that is the highest number.
-fn unit_given(
-    alloc: Global,
-    words: &ArgMatches<'_>,
-    option: &'static str,
-    nabsn: u16,
-) -> Result<u16, WordFault> {
-    match number_given(alloc, words, option, 0, 65_535)? {
-        Some(value) => Ok(value as u16),
-        None if nabsn == 0 => Ok(u16::MAX),
-        None => Ok(nabsn),
-    }
+/// The zeroes-based number of blocks of a whole unit. Without boundaries it is the highest number.
+fn whole_unit(nabsn: u16) -> u16 {
+    if nabsn == 0 { u16::MAX } else { nabsn }
 }
-
-/// The option that says how large a block is.
-pub const BLOCK: (&str, Given<'static>, &str) = (
-    "block",
-    Given::OrElse("512"),
-    "Size of a logical block in bytes, 512 or 4096",
-);
 
 /// A command with the options that say what the namespace is like. The namespace has `blocks` blocks where no number is given.
 pub fn with_namespace<'a>(
     alloc: Global,
     command: Command<'a>,
     blocks: &'a str,
-) -> Result<Command<'a>, AllocError> {
-    let options = [
-        ("nsze", Given::OrElse(blocks), NSZE),
-        BLOCK,
-        ("nabsn", Given::OrElse("7"), NABSN),
-        ("nabo", Given::OrElse("0"), NABO),
-        (
-            "nawun",
-            Given::Sometimes,
-            "Atomic write unit, zeroes-based [default: a whole unit]",
-        ),
-        (
-            "nacwu",
-            Given::Sometimes,
-            "Atomic compare and write unit, zeroes-based [default: a whole unit]",
-        ),
-    ];
-    with_numbers(alloc, command, options.as_slice())
+) -> Result<Command<'a>, Error> {
+    let nawun = number_option(
+        alloc,
+        "nawun",
+        "Atomic write unit, zeroes-based [default: a whole unit]",
+    );
+    let nacwu = number_option(
+        alloc,
+        "nacwu",
+        "Atomic compare and write unit, zeroes-based [default: a whole unit]",
+    );
+    Ok(
+        command
+            .arg(nsze(alloc).default_value(blocks))?
+            .arg(block(alloc))?
+            .arg(nabsn(alloc).default_value("7"))?
+            .arg(nabo(alloc).default_value("0"))?
+            .arg(nawun)?
+            .arg(nacwu)?,
+    )
+}
+
+/// The option that says how large a block is.
+pub fn block<'a>(alloc: Global) -> Arg<'a> {
+    number_option(
+        alloc,
+        "block",
+        "Size of a logical block in bytes, 512 or 4096",
+    )
+    .default_value("512")
 }

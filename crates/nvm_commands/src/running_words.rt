@@ -2,8 +2,8 @@
 ghost use Rattle.std.specs.Prelude.{◌≤◌, IfOk, length};
 
 use crate::front::{
-    Given, LIMIT, Telling, WordFault, file_arguments, flag, limit_given, path_given, path_option,
-    paths_named, telling_of, with_numbers, workers_given,
+    Telling, WordFault, file_arguments, flag, limit, limit_given, number_option, owned, path_given,
+    path_option, telling_of, workers_given,
 };
 use crate::namespace_words::{NamespaceWords, read_namespace, with_namespace};
 use clap::{ArgMatches, Command, Error};
@@ -33,7 +33,12 @@ pub fn read_run(alloc: Global, words: &ArgMatches<'_>) -> Result<RunWords, WordF
     ensures { IfOk result (λ run. 1 ≤ length run.lists.items) }
 {
     let namespace = read_namespace(alloc, words)?;
-    let limit = limit_given(alloc, words)?.ok_or(WordFault::Missing)?;
+    let (Some(limit), Some(paths)) = (limit_given(alloc, words)?, words.get_strs("list")) else {
+        return Err(WordFault::Missing);
+    };
+    if paths.is_empty() {
+        return Err(WordFault::Missing);
+    }
     Ok(RunWords {
         namespace,
         workers: workers_given(alloc, words)?,
@@ -41,7 +46,7 @@ pub fn read_run(alloc: Global, words: &ArgMatches<'_>) -> Result<RunWords, WordF
         record: path_given(alloc, words, "record")?,
         check: words.get_flag("check"),
         telling: telling_of(words),
-        lists: paths_named(alloc, words, "list")?,
+        lists: owned(alloc, paths)?,
     })
 }
 
@@ -50,16 +55,11 @@ pub fn run_command<'a>(alloc: Global) -> Result<Command<'a>, Error> {
     let command = Command::new(alloc, "run").about(
         "Does the commands of lists, and prints two lines for each",
     );
-    let command = with_namespace(alloc, command, "32768")?;
-    let numbers = [
-        (
-            "workers",
-            Given::Sometimes,
-            "Number of threads that do the commands, 1 to 64 [default: the processors]",
-        ),
-        ("limit", Given::OrElse("4194304"), LIMIT),
-    ];
-    let command = with_numbers(alloc, command, numbers.as_slice())?;
+    let workers = number_option(
+        alloc,
+        "workers",
+        "Number of threads that do the commands, 1 to 64 [default: the processors]",
+    );
     let record = path_option(alloc, "record", "REC", "Where the record of the run goes");
     let check = flag(
         alloc,
@@ -78,5 +78,13 @@ pub fn run_command<'a>(alloc: Global) -> Result<Command<'a>, Error> {
         "LIST",
         "The command lists, host 1's first; one may be - for standard input",
     );
-    Ok(command.arg(record)?.arg(check)?.arg(json)?.arg(lists)?)
+    Ok(
+        with_namespace(alloc, command, "32768")?
+            .arg(workers)?
+            .arg(limit(alloc).default_value("4194304"))?
+            .arg(record)?
+            .arg(check)?
+            .arg(json)?
+            .arg(lists)?,
+    )
 }

@@ -1,13 +1,13 @@
 //! Options that take a number.
-ghost use Rattle.std.specs.Prelude.{◌≤◌, Some, IfOk, IfSome, codes};
+ghost use Rattle.std.specs.Prelude.{◌≤◌, IfOk, IfSome, codes};
 ghost use Rattle.clap.specs.Matches.{first_value, found_of};
 ghost use Rattle.nvm_commands.specs.Numbers.{IsGiven};
 
-use crate::front::number_word::number;
+use crate::front::number_word::{NumberFault, number};
 use crate::front::words::WordFault;
-use clap::{Arg, ArgMatches, Command};
+use clap::{Arg, ArgMatches};
 use nvm_record::BlockSize;
-use std::alloc::{AllocError, Global};
+use std::alloc::Global;
 use std::fmt;
 use std::fmt::{Display, Formatter};
 
@@ -34,34 +34,9 @@ impl Display for Expected {
     }
 }
 
-/// Whether an option has to be given, and what it has where it isn't.
-#[derive(Clone, Copy)]
-pub enum Given<'a> {
-    Always,
-    Sometimes,
-    OrElse(&'a str),
-}
-
-/// A command with options that take a number, each by its name, whether it has to be given, and its help.
-pub fn with_numbers<'a>(
-    alloc: Global,
-    command: Command<'a>,
-    options: &[(&'a str, Given<'a>, &'a str)],
-) -> Result<Command<'a>, AllocError> {
-    let mut command = command;
-    for (name, given, help) in options {
-        let option = Arg::new(alloc, *name)
-            .long(*name)
-            .value_name("N")
-            .help(*help);
-        let option = match *given {
-            Given::Always => option.required(true),
-            Given::Sometimes => option,
-            Given::OrElse(value) => option.default_value(value),
-        };
-        command = command.arg(option)?;
-    }
-    Ok(command)
+/// An option that takes a number.
+pub fn number_option<'a>(alloc: Global, name: &'a str, help: &'a str) -> Arg<'a> {
+    Arg::new(alloc, name).long(name).value_name("N").help(help)
 }
 
 /// The number that an option has, from `least` to `most`, or `None` where it isn't given.
@@ -80,62 +55,64 @@ pub fn number_given(
     };
     match number(word.as_bytes(), least, most) {
         Ok(value) => Ok(Some(value)),
-        Err(expected) => Err(refused(alloc, option, word, expected)),
+        Err(NumberFault::NoNumber) => Err(refused(alloc, option, word, Expected::Number)),
+        Err(NumberFault::OutOfRange) => {
+            Err(refused(alloc, option, word, Expected::Between(least, most)))
+        }
     }
 }
 
-/// The number of 16 bits of an option that has to be given.
+/// The same of 16 bits.
 pub fn number_of_16_bits(
     alloc: Global,
     words: &ArgMatches<'_>,
     option: &'static str,
-) -> Result<u16, WordFault>
-    ensures { IfOk result (λ n. IsGiven 0 65535 (first_value (found_of words.now) option.now) (Some n)) }
+) -> Result<Option<u16>, WordFault>
+    ensures { IfOk result (IsGiven 0 65535 (first_value (found_of words.now) option.now)) }
 {
     match number_given(alloc, words, option, 0, 65_535)? {
-        Some(value) => Ok(value as u16),
-        None => Err(WordFault::Missing),
+        Some(value) => Ok(Some(value as u16)),
+        None => Ok(None),
     }
 }
 
-/// The number of 32 bits of an option that has to be given.
+/// The same of 32 bits.
 pub fn number_of_32_bits(
     alloc: Global,
     words: &ArgMatches<'_>,
     option: &'static str,
-) -> Result<u32, WordFault>
-    ensures { IfOk result (λ n. IsGiven 0 4294967295 (first_value (found_of words.now) option.now) (Some n)) }
+) -> Result<Option<u32>, WordFault>
+    ensures { IfOk result (IsGiven 0 4294967295 (first_value (found_of words.now) option.now)) }
 {
     match number_given(alloc, words, option, 0, 4_294_967_295)? {
-        Some(value) => Ok(value as u32),
-        None => Err(WordFault::Missing),
+        Some(value) => Ok(Some(value as u32)),
+        None => Ok(None),
     }
 }
 
-/// The number of 64 bits of an option that has to be given.
+/// The same of 64 bits.
 pub fn number_of_64_bits(
     alloc: Global,
     words: &ArgMatches<'_>,
     option: &'static str,
-) -> Result<u64, WordFault>
-    ensures { IfOk result (λ n. IsGiven 0 18446744073709551615 (first_value (found_of words.now) option.now) (Some n)) }
+) -> Result<Option<u64>, WordFault>
+    ensures { IfOk result (IsGiven 0 18446744073709551615 (first_value (found_of words.now) option.now)) }
 {
-    match number_given(alloc, words, option, 0, u64::MAX)? {
-        Some(value) => Ok(value),
-        None => Err(WordFault::Missing),
-    }
+    number_given(alloc, words, option, 0, u64::MAX)
 }
 
-/// The size of a block that `--block` has.
-pub fn size_given(alloc: Global, words: &ArgMatches<'_>) -> Result<BlockSize, WordFault>
-    ensures { IfOk result (λ size. IsGiven 0 4294967295 (first_value (found_of words.now) (codes "block")) (Some size)) }
+/// The size of a block that `--block` has, or `None` where it isn't given.
+pub fn size_given(alloc: Global, words: &ArgMatches<'_>) -> Result<Option<BlockSize>, WordFault>
+    ensures { IfOk result (IsGiven 0 4294967295 (first_value (found_of words.now) (codes "block"))) }
 {
     let Some(word) = words.get_str("block") else {
-        return Err(WordFault::Missing);
+        return Ok(None);
     };
-    let bytes = number_of_32_bits(alloc, words, "block")?;
+    let Some(bytes) = number_of_32_bits(alloc, words, "block")? else {
+        return Ok(None);
+    };
     match BlockSize::new(bytes) {
-        Some(size) => Ok(size),
+        Some(size) => Ok(Some(size)),
         None => Err(refused(alloc, "block", word, Expected::Size)),
     }
 }

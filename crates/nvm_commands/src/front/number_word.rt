@@ -3,21 +3,28 @@
 ghost use Rattle.std.specs.Prelude.{◌≡◌, ◌≤◌, ◌+◌, ◌*◌, IfOk};
 ghost use Rattle.nvm_commands.specs.Numbers as spec;
 
-use crate::front::number_options::Expected;
+/// Why a word gives no number.
+#[derive(Clone, Copy, Debug, PartialEq, Eq)]
+pub enum NumberFault {
+    /// It is none.
+    NoNumber,
+    /// It is one that isn't taken.
+    OutOfRange,
+}
 
 /// The number that a word says, where it is one from `least` to `most`. A `+` may come before it.
-pub fn number(word: &[u8], least: u64, most: u64) -> Result<u64, Expected>
+pub fn number(word: &[u8], least: u64, most: u64) -> Result<u64, NumberFault>
     ensures value { result ≡ spec.number least most word.now }
     ensures range { IfOk result (λ value. (least ≤ value) × (value ≤ most)) }
 {
     let digits = digits_of(word);
     let radix = radix_of(word);
     if !is_numeral(radix, digits) {
-        return Err(Expected::Number);
+        return Err(NumberFault::NoNumber);
     }
     match whole(radix, digits, unit_of(word)) {
         Some(value) if least <= value && value <= most => Ok(value),
-        _ => Err(Expected::Between(least, most)),
+        _ => Err(NumberFault::OutOfRange),
     }
 }
 

@@ -3,24 +3,36 @@ ghost use Rattle.std.specs.Prelude.{IfOk, codes};
 ghost use Rattle.clap.specs.Matches.{first_value, found_of};
 ghost use Rattle.nvm_commands.specs.Numbers.{IsGiven};
 
-use crate::front::number_options::number_given;
+use crate::front::number_options::{number_given, number_option};
 use crate::front::words::WordFault;
-use clap::ArgMatches;
+use clap::{Arg, ArgMatches};
 use nvm_engine::Workers;
 use nvm_store::Limit;
 use std::alloc::Global;
 
-/// What helps with `--nsze`.
-pub const NSZE: &str = "Size of the namespace in logical blocks";
+/// `--nsze`.
+pub fn nsze<'a>(alloc: Global) -> Arg<'a> {
+    number_option(alloc, "nsze", "Size of the namespace in logical blocks")
+}
 
-/// What helps with `--nabsn`.
-pub const NABSN: &str = "Atomic boundary size, zeroes-based: 0 is none";
+/// `--nabsn`.
+pub fn nabsn<'a>(alloc: Global) -> Arg<'a> {
+    number_option(
+        alloc,
+        "nabsn",
+        "Atomic boundary size, zeroes-based: 0 is none",
+    )
+}
 
-/// What helps with `--nabo`.
-pub const NABO: &str = "Atomic boundary offset";
+/// `--nabo`.
+pub fn nabo<'a>(alloc: Global) -> Arg<'a> {
+    number_option(alloc, "nabo", "Atomic boundary offset")
+}
 
-/// What helps with `--limit`.
-pub const LIMIT: &str = "Most changes of a unit, 1 to 4194304";
+/// `--limit`.
+pub fn limit<'a>(alloc: Global) -> Arg<'a> {
+    number_option(alloc, "limit", "Most changes of a unit, 1 to 4194304")
+}
 
 /// The number that `--limit` has, from 1 to 4,194,304, or `None` where it isn't given.
 pub fn limit_given(alloc: Global, words: &ArgMatches<'_>) -> Result<Option<Limit>, WordFault>

@@ -2,15 +2,14 @@ ghost use Rattle.std.specs.Prelude.{IfOk};
 ghost use Rattle.nvm_commands.specs.Nvmu.Words.{IsAsked};
 
 use crate::front::{
-    AuditWords, Given, LIMIT, NABO, NABSN, NSZE, VERSION, WitnessWords, WordFault, audit_command,
-    file_argument, file_arguments, limit_given, number_of_16_bits, number_of_32_bits,
-    number_of_64_bits, path_named, path_option, paths_named, read_audit, read_witness, trace,
-    with_numbers, witness_command, words_given, workers_given,
+    AuditWords, VERSION, WitnessWords, WordFault, audit_command, file_argument, file_arguments,
+    limit, limit_given, nabo, nabsn, nsze, number_of_16_bits, number_of_32_bits, number_of_64_bits,
+    number_option, owned, path_named, path_option, read_audit, read_witness, trace,
+    witness_command, workers_given,
 };
-use clap::{ArgMatches, Command, Error};
+use clap::{Arg, ArgMatches, Command, Error};
 use nvm_engine::Settings;
 use std::alloc::Global;
-use std::rt::Env;
 
 /// What the words of the command line ask for.
 #[derive(Drop)]
@@ -38,13 +37,12 @@ pub enum Asked {
 ///
 /// Every option of `run` is given once. `--workers` takes 1 to 64, `--limit` 1 to 4,194,304, and one host file or more is named.
 /// `audit` names one record, `witness` a trace and a record, and `refute` a trace and a contradiction.
-pub fn read_words<R: AllocGlobal + Env>(rt: &R) -> Result<Asked, WordFault>
+pub fn read_words(alloc: Global, words: &[String]) -> Result<Asked, WordFault>
     ensures { IfOk result IsAsked }
 {
-    let words = words_given(rt)?;
-    let mut command = program(rt.alloc())?;
-    let matches = command.try_get_matches_from_mut(words.as_slice())?;
-    asked_of(rt.alloc(), &matches)
+    let mut command = program(alloc)?;
+    let matches = command.try_get_matches_from_mut(words)?;
+    asked_of(alloc, &matches)
 }
 
 /// What the matches ask for.
@@ -52,32 +50,65 @@ fn asked_of(alloc: Global, matches: &ArgMatches<'_>) -> Result<Asked, WordFault>
     ensures { IfOk result IsAsked }
 {
     match matches.subcommand() {
-        Some(("run", words)) => Ok(Asked::Run {
-            settings: settings_of(alloc, words)?,
-            out: path_named(alloc, words, "out")?,
-            files: paths_named(alloc, words, "file")?,
-        }),
+        Some(("run", run)) => run_asked(alloc, run),
         Some(("audit", words)) => Ok(Asked::Audit(read_audit(alloc, words)?)),
         Some(("witness", words)) => Ok(Asked::Witness(read_witness(alloc, words)?)),
-        Some(("refute", words)) => Ok(Asked::Refute {
-            trace: path_named(alloc, words, "trace")?,
-            contradiction: path_named(alloc, words, "contradiction")?,
-        }),
+        Some(("refute", words)) => refute_asked(alloc, words),
         _ => Err(WordFault::Missing),
     }
 }
 
+/// What `nvmu run` is asked.
+fn run_asked(alloc: Global, run: &ArgMatches<'_>) -> Result<Asked, WordFault>
+    ensures { IfOk result IsAsked }
+{
+    let (Some(out), Some(paths)) = (run.get_str("out"), run.get_strs("file")) else {
+        return Err(WordFault::Missing);
+    };
+    if paths.is_empty() {
+        return Err(WordFault::Missing);
+    }
+    Ok(Asked::Run {
+        settings: settings_of(alloc, run)?,
+        out: String::from_str(alloc, out)?,
+        files: owned(alloc, paths)?,
+    })
+}
+
+/// What `nvmu refute` is asked.
+fn refute_asked(alloc: Global, refute: &ArgMatches<'_>) -> Result<Asked, WordFault>
+    ensures { IfOk result IsAsked }
+{
+    Ok(Asked::Refute {
+        trace: path_named(alloc, refute, "trace")?,
+        contradiction: path_named(alloc, refute, "contradiction")?,
+    })
+}
+
 /// The options that are numbers.
 fn settings_of(alloc: Global, run: &ArgMatches<'_>) -> Result<Settings, WordFault> {
+    let (Some(nsze), Some(block), Some(nabsn), Some(nabo), Some(nawun), Some(nacwu)) = (
+        number_of_64_bits(alloc, run, "nsze")?,
+        number_of_32_bits(alloc, run, "block")?,
+        number_of_16_bits(alloc, run, "nabsn")?,
+        number_of_16_bits(alloc, run, "nabo")?,
+        number_of_16_bits(alloc, run, "nawun")?,
+        number_of_16_bits(alloc, run, "nacwu")?,
+    ) else {
+        return Err(WordFault::Missing);
+    };
+    let (Some(workers), Some(limit)) = (workers_given(alloc, run)?, limit_given(alloc, run)?) else {
+        return Err(WordFault::Missing);
+    };
     Ok(Settings {
-        nsze: number_of_64_bits(alloc, run, "nsze")?,
-        block: number_of_32_bits(alloc, run, "block")?,
-        nabsn: number_of_16_bits(alloc, run, "nabsn")?,
-        nabo: number_of_16_bits(alloc, run, "nabo")?,
-        nawun: number_of_16_bits(alloc, run, "nawun")?,
-        nacwu: number_of_16_bits(alloc, run, "nacwu")?,
-        workers: workers_given(alloc, run)?.ok_or(WordFault::Missing)?,
-        limit: limit_given(alloc, run)?.ok_or(WordFault::Missing)?,
+        nsze,
+        block,
+        nabsn,
+        nabo,
+        nawun,
+        nacwu,
+        workers,
+        limit,
     })
 }
 
@@ -101,32 +132,30 @@ fn program<'a>(alloc: Global) -> Result<Command<'a>, Error> {
 
 /// `nvmu run`.
 fn run_command<'a>(alloc: Global) -> Result<Command<'a>, Error> {
-    let command = Command::new(alloc, "run").about(
-        "Does the commands of the hosts' files, writes a record of that, and prints a line for each",
-    );
-    let numbers = [
-        ("nsze", Given::Always, NSZE),
-        (
+    let command = Command::new(alloc, "run")
+        .about(
+            "Does the commands of the hosts' files, writes a record of that, and prints a line for each",
+        )
+        .arg(nsze(alloc).required(true))?
+        .arg(number(
+            alloc,
             "block",
-            Given::Always,
             "Size of a logical block in bytes: 512 or 4096",
-        ),
-        ("nabsn", Given::Always, NABSN),
-        ("nabo", Given::Always, NABO),
-        ("nawun", Given::Always, "Atomic write unit, zeroes-based"),
-        (
+        ))?
+        .arg(nabsn(alloc).required(true))?
+        .arg(nabo(alloc).required(true))?
+        .arg(number(alloc, "nawun", "Atomic write unit, zeroes-based"))?
+        .arg(number(
+            alloc,
             "nacwu",
-            Given::Always,
             "Atomic compare and write unit, zeroes-based",
-        ),
-        (
+        ))?
+        .arg(number(
+            alloc,
             "workers",
-            Given::Always,
             "Number of threads that do the commands, 1 to 64",
-        ),
-        ("limit", Given::Always, LIMIT),
-    ];
-    let command = with_numbers(alloc, command, numbers.as_slice())?;
+        ))?
+        .arg(limit(alloc).required(true))?;
     let out = path_option(alloc, "out", "REC", "Where the record goes").required(true);
     let out = out.visible_alias("record")?;
     let files = file_arguments(
@@ -150,4 +179,9 @@ fn refute_command<'a>(alloc: Global) -> Result<Command<'a>, Error> {
         "Says whether a contradiction shows that no device may answer as in a trace, and if not, why",
     );
     Ok(command.arg(trace(alloc))?.arg(contradiction)?)
+}
+
+/// An option that has to be given a number.
+fn number<'a>(alloc: Global, name: &'a str, help: &'a str) -> Arg<'a> {
+    number_option(alloc, name, help).required(true)
 }
