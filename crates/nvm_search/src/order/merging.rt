@@ -278,6 +278,14 @@ pub fn order_of<'t>(
     Ok(Ok(Order { first, placed }))
 }
 
+/// Whether the point's blocks are done one by one.
+fn is_each(points: &Points<'_>, point: u32) -> bool {
+    match points.points.get(point as usize) {
+        Some(point) => point.each,
+        None => false,
+    }
+}
+
 /// The points in this order. Blocks of a point that are done one after the other stand as one.
 fn all_placed<'t>(
     alloc: Global,
@@ -287,10 +295,7 @@ fn all_placed<'t>(
     let mut placed: Vec<Placed<'t>> = Vec::with_capacity(alloc, steps.len())?;
     for step in steps {
         let next = step.1;
-        let each = match points.points.get(next.point as usize) {
-            Some(point) => point.each,
-            None => false,
-        };
+        let each = is_each(points, next.point);
         if let Some(last) = placed.last_mut() {
             if each
                 && matches!(&next.value, Value::AsIs)
