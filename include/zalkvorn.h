@@ -12,8 +12,8 @@
  *      (not by acquire and release alone), and is never copied while it is open: a queue keeps a pointer to its port.
  *   2. A port is bytes of 0 before it is opened, and nothing but these calls writes to it.
  *   3. Each pointer is good for the length that is passed with it. No two pointers of a call lead to bytes in common, but for
- *      the two pieces of zk_submit_pair, and nobody else writes to these bytes while the call runs: copy entries and data out of a guest's memory first, and a Read's blocks
- *      into it afterward.
+ *      the two pieces of zk_submit_pair, and nobody else writes to these bytes while the call runs: copy entries and data out of
+ *      a guest's memory first, and a Read's blocks into it afterward.
  *   4. malloc, realloc and free are a usual allocator's, and no call is made from a signal handler, or from the forked child of a
  *      process with threads.
  *
