@@ -1,6 +1,6 @@
 -- What an audit answers of the record of a file, what a witness answers of a trace and the file of a record or an order, and why nothing is. What
 -- is in a file no definition can say, so its bytes are some.
-use Rattle.std.specs.Prelude.{◌≡◌, ◌⊎◌, ℕ, true, List, Result, Ok, codes, string_bytes}
+use Rattle.std.specs.Prelude.{◌≡◌, ◌⊎◌, ℕ, true, List, Result, Ok}
 use Rattle.nvm_audit.specs.declared.audit_fault.AuditFault.{AuditFault}
 use Rattle.nvm_audit.specs.declared.verdict.Verdict.{Verdict}
 use Rattle.nvm_audit.specs.RecordView.{RecordView}
@@ -27,12 +27,11 @@ use Rattle.nvm_trace.specs.declared.judging.Judging.{Judging}
 use Rattle.nvm_trace.specs.declared.judging.Judging.TheVariants.{Standard}
 use Rattle.nvm_trace.specs.declared.witness_fault.WitnessFault.{WitnessFault}
 use Rattle.nvm_commands.specs.Fault.{IsFaultOfEvidenceAt, IsFaultOfRecordAt, IsFaultOfTraceAt}
-use Rattle.nvm_commands.specs.Files.{IsReadFault, IsWriteFault}
+use Rattle.nvm_commands.specs.Files.{IsReadFault}
 use Rattle.nvm_commands.specs.Traced.{SaysTrace}
-use Rattle.nvm_commands.specs.declared.auditing.AuditedRecord.{AuditedRecord}
-use Rattle.nvm_commands.specs.declared.auditing.WitnessedTrace.{WitnessedTrace}
 use Rattle.nvm_commands.specs.declared.fault.Fault.{Fault}
 use Rattle.nvm_commands.specs.declared.fault.Fault.TheVariants.{InputTwice}
+use Rattle.nvm_commands.specs.declared.told.Told.{Told}
 
 -- how an audit is printed
 abbrev pub answer_told : Telling → Result Verdict AuditFault → List ℕ
@@ -40,7 +39,7 @@ answer_told Lines = answer_line
 answer_told Object = answer_object
 
 -- The text and the status are those of what an audit answers of a file's record.
-pub record IsAuditedFile (telling : Telling) (told : AuditedRecord) : Type 0 where
+pub record IsAuditedFile (telling : Telling) (told : Told) : Type 0 where
   pub file : List ℕ
   pub answer : Result Verdict AuditFault
   pub judged : IsJudged file answer
@@ -48,7 +47,7 @@ pub record IsAuditedFile (telling : Telling) (told : AuditedRecord) : Type 0 whe
   pub status : told.status ≡ answer_status answer
 
 -- The status is that of all that is wrong in a file's record, or of its verdict.
-pub record AreFaultsOfFile (told : AuditedRecord) : Type 0 where
+pub record AreFaultsOfFile (told : Told) : Type 0 where
   pub file : List ℕ
   pub run : RecordView
   pub holds : record_at file ≡ Ok run
@@ -56,34 +55,30 @@ pub record AreFaultsOfFile (told : AuditedRecord) : Type 0 where
   pub found : AreFaults run faults
   pub status : told.status ≡ faults_status faults
 
--- The record couldn't be read, or else it is its first fault, or else the text couldn't be written.
-abbrev pub IsAuditingFault : List ℕ → Fault → Type 0
-IsAuditingFault run fault = (IsReadFault run fault ⊎ IsFaultOfRecordAt run fault) ⊎ IsWriteFault (codes "-") fault
-
--- The line and the status are those of what a witness answers of the trace and the record that a file holds.
-pub record IsToldByRecord (judging : Judging) (t : TraceView) (file : List ℕ) (told : WitnessedTrace) : Type 0 where
+-- The text and the status are those of what a witness answers of the trace and the record that a file holds.
+pub record IsToldByRecord (judging : Judging) (t : TraceView) (file : List ℕ) (told : Told) : Type 0 where
   pub run : RecordView
   pub holds : IsRecordFile file run
   pub answer : Result Explained WitnessFault
   pub witnessed : IsWitnessedAs judging t run answer
-  pub line : string_bytes told.line ≡ witness_line answer
+  pub text : told.text.items ≡ witness_line answer
   pub status : told.status ≡ witness_status answer
 
--- The line and the status are those of what is answered of the trace and some order.
-pub record IsToldByOrder (t : TraceView) (told : WitnessedTrace) : Type 0 where
+-- The text and the status are those of what is answered of the trace and some order.
+pub record IsToldByOrder (t : TraceView) (told : Told) : Type 0 where
   pub profile : Profile
   pub order : OrderView
   pub answer : Ordered
   pub ordered : IsOrdered t profile order answer
-  pub line : string_bytes told.line ≡ ordered_line answer
+  pub text : told.text.items ≡ ordered_line answer
   pub status : told.status ≡ ordered_status answer
 
 -- They are those of the record that a file holds, or of an order, which judges by the standard alone.
-abbrev pub IsWitnessedTrace : Judging → TraceView → List ℕ → WitnessedTrace → Type 0
+abbrev pub IsWitnessedTrace : Judging → TraceView → List ℕ → Told → Type 0
 IsWitnessedTrace judging t file told = IsToldByRecord judging t file told ⊎ ((judging ≡ Standard) × IsToldByOrder t told)
 
 -- The same of the trace that the bytes at one path say, and of the file at another.
-pub record AreWitnessedFiles (judging : Judging) (told : WitnessedTrace) : Type 0 where
+pub record AreWitnessedFiles (judging : Judging) (told : Told) : Type 0 where
   pub bytes : List ℕ
   pub seen : TraceView
   pub says : SaysTrace bytes seen
@@ -101,7 +96,3 @@ IsUnwitnessed trace other fault =
     IsInputTwice trace other fault
     ⊎ ((IsReadFault trace fault ⊎ IsFaultOfTraceAt trace fault)
     ⊎ (IsReadFault other fault ⊎ (IsFaultOfRecordAt other fault ⊎ IsFaultOfEvidenceAt other fault)))
-
--- That, or else the line couldn't be written.
-abbrev pub IsWitnessingFault : List ℕ → List ℕ → Fault → Type 0
-IsWitnessingFault trace run fault = IsUnwitnessed trace run fault ⊎ IsWriteFault (codes "-") fault

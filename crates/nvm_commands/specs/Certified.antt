@@ -60,8 +60,7 @@ IsEvidenceFault (Some path) fault =
     ((fault ≡ EvidenceAmongLines) × (string_bytes path ≡ codes "-")) ⊎ IsWriteFault (string_bytes path) fault
 IsEvidenceFault None fault = ⊥
 
--- What was found couldn't be kept, or the trace couldn't be read, or else it is its first fault, or else the text couldn't be written.
+-- What was found couldn't be kept, or the trace couldn't be read, or else it is its first fault.
 abbrev pub IsCertifyingFault : CertifyWords → Fault → Type 0
 IsCertifyingFault words fault =
-    IsEvidenceFault words.evidence fault
-    ⊎ ((IsReadFault (string_bytes words.trace) fault ⊎ IsFaultOfTraceAt (string_bytes words.trace) fault) ⊎ IsWriteFault (codes "-") fault)
+    IsEvidenceFault words.evidence fault ⊎ (IsReadFault (string_bytes words.trace) fault ⊎ IsFaultOfTraceAt (string_bytes words.trace) fault)

@@ -1,9 +1,9 @@
 -- Why there is no explanation of a record's file, or of those of a trace and of evidence, which is a record, an order or a contradiction.
-use Rattle.std.specs.Prelude.{◌⊎◌, ℕ, List, codes, string_bytes}
+use Rattle.std.specs.Prelude.{◌⊎◌, ℕ, List, string_bytes}
 use Rattle.nvm_trace.specs.TraceView.{TraceView}
 use Rattle.nvm_commands.specs.Audited.{IsUnwitnessed}
 use Rattle.nvm_commands.specs.Fault.{IsFaultOfEvidenceAt, IsFaultOfRecordAt, IsFaultOfRecordIn, IsFaultOfTraceIn}
-use Rattle.nvm_commands.specs.Files.{IsReadFault, IsWriteFault}
+use Rattle.nvm_commands.specs.Files.{IsReadFault}
 use Rattle.nvm_commands.specs.Traced.{SaysTrace}
 use Rattle.nvm_commands.specs.declared.explaining_words.ExplainWords.{ExplainWords}
 use Rattle.nvm_commands.specs.declared.explaining_words.ExplainWords.TheVariants.{Record, Trace}
@@ -19,7 +19,3 @@ IsStoryFault trace seen run held fault =
 abbrev pub IsUntold : ExplainWords → Fault → Type 0
 IsUntold (Record path) fault = IsReadFault (string_bytes path) fault ⊎ IsFaultOfRecordAt (string_bytes path) fault
 IsUntold (Trace judging trace path) fault = IsUnwitnessed (string_bytes trace) (string_bytes path) fault
-
--- That, or else the text couldn't be written.
-abbrev pub IsExplainingFault : ExplainWords → Fault → Type 0
-IsExplainingFault words fault = IsUntold words fault ⊎ IsWriteFault (codes "-") fault

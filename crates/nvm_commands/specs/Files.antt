@@ -1,5 +1,5 @@
 -- Why a file wasn't read, or not written.
-use Rattle.std.specs.Prelude.{◌≡◌, ◌⊎◌, ℕ, String, List, codes, string_bytes}
+use Rattle.std.specs.Prelude.{◌≡◌, ◌⊎◌, ℕ, String, List, string_bytes}
 use Rattle.std.specs.Global.{Global}
 use Rattle.nvm_listing.specs.Expectations.{without_expectations}
 use Rattle.nvm_commands.specs.Expecting.{IsExpectationFault}
@@ -46,6 +46,6 @@ IsTracingFault text out fault =
 abbrev pub IsListedFault : ℕ → List ℕ → Fault → Type 0
 IsListedFault size path fault = (shown : String Global) × (string_bytes shown ≡ path) × ((file : List ℕ) × IsListFault shown size file fault)
 
--- The file at this path couldn't be read, or else it is its first fault, or else the text couldn't be written.
+-- The file at this path couldn't be read, or else it is its first fault.
 abbrev pub IsListingFault : ℕ → List ℕ → Fault → Type 0
-IsListingFault size path fault = IsReadFault path fault ⊎ (IsListedFault size path fault ⊎ IsWriteFault (codes "-") fault)
+IsListingFault size path fault = IsReadFault path fault ⊎ IsListedFault size path fault

@@ -1,7 +1,7 @@
 -- Numbers as the words of a command line write them.
 use Rattle.std.specs.Prelude.{◌≡◌, ℕ, ◌+◌, ◌-◌, ◌*◌, nat_lt, nat_le, ◌==◌, if◌then◌else◌, Bool, true, ◌&&◌, ◌||◌, List, [], ◌∷◌, length, take, drop, get_or, Option, Some, None, Result, Ok, Err}
-use Rattle.nvm_commands.specs.declared.front.number_word.NumberFault.{NumberFault}
-use Rattle.nvm_commands.specs.declared.front.number_word.NumberFault.TheVariants.{NoNumber, OutOfRange}
+use Rattle.nvm_commands.specs.declared.front.number_options.Expected.{Expected}
+use Rattle.nvm_commands.specs.declared.front.number_options.Expected.TheVariants as expected
 
 -- what the letters `k`, `m` and `g` stand for, in either case, and 1 for any other byte
 abbrev pub unit_letter : ℕ → ℕ
@@ -61,12 +61,12 @@ abbrev pub within : ℕ → Option ℕ
 within n = if nat_lt n 18446744073709551616 then Some n else None
 
 -- the number, where it is one from `least` to `most`
-abbrev pub taken : ℕ → ℕ → ℕ → Result ℕ NumberFault
-taken least most n = if nat_le least n && nat_le n most then Ok n else Err OutOfRange
+abbrev pub taken : ℕ → ℕ → ℕ → Result ℕ Expected
+taken least most n = if nat_le least n && nat_le n most then Ok n else Err (expected.Between least most)
 
-abbrev pub number : ℕ → ℕ → List ℕ → Result ℕ NumberFault
+abbrev pub number : ℕ → ℕ → List ℕ → Result ℕ Expected
 number least most word =
-    if is_numeral (radix_of word) (digits_of word) then taken least most (value_of word) else Err NoNumber
+    if is_numeral (radix_of word) (digits_of word) then taken least most (value_of word) else Err expected.Number
 
 -- An option's value, if it has one, says this number.
 abbrev pub IsGiven : ℕ → ℕ → Option (List ℕ) → Option ℕ → Type 0

@@ -1,16 +1,15 @@
-//! `nvq audit` and `nvq witness`: whether a record is lawful, and whether it, or an order, explains a trace. Each prints one line, but for
-//! `nvq audit --all`, which prints one for each unit in which something is wrong.
+//! `nvq audit` and `nvq witness`: whether a record is lawful, and whether it, or an order, explains a trace. Each answers one line, but for
+//! `nvq audit --all`, which has one for each unit in which something is wrong.
 ghost use Rattle.std.specs.Prelude.{◌≡◌, ◌⊎◌, IfOk, IfErr};
 ghost use Rattle.nvm_engine.specs.VerdictLine.{answer_line};
-ghost use Rattle.nvm_commands.specs.Audited.{AreFaultsOfFile, AreWitnessedFiles, answer_told, IsAuditedFile, IsAuditingFault, IsToldByOrder, IsToldByRecord, IsUnwitnessed, IsWitnessedTrace, IsWitnessingFault};
+ghost use Rattle.nvm_commands.specs.Audited.{AreFaultsOfFile, AreWitnessedFiles, answer_told, IsAuditedFile, IsToldByOrder, IsToldByRecord, IsUnwitnessed, IsWitnessedTrace};
 ghost use Rattle.nvm_commands.specs.Fault.{IsFaultOfEvidenceAt, IsFaultOfRecordAt, IsFaultOfRecordIn};
 ghost use Rattle.nvm_commands.specs.Files.{IsReadFault};
 
 use crate::failure::Failure;
-use crate::files::{
-    check_apart, order_in, payload_of, read_as_record, read_as_trace, record_in, write_bytes,
-};
-use crate::front::{InputKind, Progress, STANDARD, Telling};
+use crate::files::{check_apart, order_in, payload_of, read_as_record, read_as_trace, record_in};
+use crate::front::{InputKind, Progress, Telling};
+use crate::told::Told;
 use nvm_engine::{Judged, judge_watched, witness_record};
 use nvm_evidence::{is_evidence, witness_order};
 use nvm_listing::{all_faults, list_faults};
@@ -21,71 +20,30 @@ use std::mem::forget;
 use std::rt::Files;
 use std::thread::Threads;
 
-/// What an audit answers of a record, and the exit status.
-#[derive(Drop)]
-pub struct AuditedRecord {
-    pub text: Vec<u8>,
-    pub status: u8,
-}
-
-/// What a witness answers of a trace and a record or an order, and the exit status.
-#[derive(Drop)]
-pub struct WitnessedTrace {
-    pub line: String,
-    pub status: u8,
-}
-
-/// Audits the record at a path, prints the verdict or the first fault, and gives the exit status.
-pub fn run_audit<R: AllocGlobal + Files + Input + Print + Eprint + Threads + Sync>(
-    rt: &R,
-    telling: Telling,
-    record: &str,
-    progress: &Progress<'_, R>,
-) -> Result<u8, Failure>
-    ensures fault { IfErr result (λ failure. IsAuditingFault «record».now failure.fault) }
-{
-    let AuditedRecord { text, status } = audited(rt, telling, record, progress)?;
-    write_bytes(rt, STANDARD, &text, progress)?;
-    Ok(status)
-}
-
 /// What an audit answers of the record at a path.
-fn audited<R: AllocGlobal + Files + Input + Eprint + Threads + Sync>(
+pub fn audited<R: AllocGlobal + Files + Input + Eprint + Threads + Sync>(
     rt: &R,
     telling: Telling,
     record: &str,
     progress: &Progress<'_, R>,
-) -> Result<AuditedRecord, Failure>
+) -> Result<Told, Failure>
     ensures audited { IfOk result (IsAuditedFile telling) }
     ensures fault { IfErr result (λ failure. IsReadFault «record».now failure.fault ⊎ IsFaultOfRecordAt «record».now failure.fault) }
 {
     let run = read_as_record(rt, record, progress)?;
     let judged = judge_watched(rt, rt.alloc(), &run, progress)?;
-    let text = told(rt.alloc(), telling, &judged)?;
+    let text = printed(rt.alloc(), telling, &judged)?;
     let status = judged.status();
     forget(run);
-    Ok(AuditedRecord { text, status })
-}
-
-/// Audits the record at a path, prints the verdict or all that is wrong in it, and gives the exit status.
-pub fn run_audit_all<R: AllocGlobal + Files + Input + Print + Eprint + Threads + Sync>(
-    rt: &R,
-    record: &str,
-    progress: &Progress<'_, R>,
-) -> Result<u8, Failure>
-    ensures fault { IfErr result (λ failure. IsAuditingFault «record».now failure.fault) }
-{
-    let AuditedRecord { text, status } = all_audited(rt, record, progress)?;
-    write_bytes(rt, STANDARD, &text, progress)?;
-    Ok(status)
+    Ok(Told { text, status })
 }
 
 /// All that is wrong in the record at a path, or its verdict.
-fn all_audited<R: AllocGlobal + Files + Input + Eprint + Threads + Sync>(
+pub fn all_audited<R: AllocGlobal + Files + Input + Eprint + Threads + Sync>(
     rt: &R,
     record: &str,
     progress: &Progress<'_, R>,
-) -> Result<AuditedRecord, Failure>
+) -> Result<Told, Failure>
     ensures audited { IfOk result AreFaultsOfFile }
     ensures fault { IfErr result (λ failure. IsReadFault «record».now failure.fault ⊎ IsFaultOfRecordAt «record».now failure.fault) }
 {
@@ -94,11 +52,11 @@ fn all_audited<R: AllocGlobal + Files + Input + Eprint + Threads + Sync>(
     let text = list_faults(rt.alloc(), &faults)?.into_bytes();
     let status = faults.status();
     forget(run);
-    Ok(AuditedRecord { text, status })
+    Ok(Told { text, status })
 }
 
 /// How an audit is printed.
-fn told(alloc: Global, telling: Telling, judged: &Judged) -> Result<Vec<u8>, NoMemory>
+fn printed(alloc: Global, telling: Telling, judged: &Judged) -> Result<Vec<u8>, NoMemory>
     ensures { IfOk result (λ text. text.items ≡ answer_told telling judged.now) }
 {
     match telling {
@@ -118,30 +76,14 @@ fn line_of(alloc: Global, judged: &Judged) -> Result<Vec<u8>, NoMemory>
     }
 }
 
-/// Judges the trace at a path by the record or the order at another, prints the line of that, and gives the exit status. The two can't both be
-/// standard input.
-pub fn run_witness<R: AllocGlobal + Files + Input + Print + Eprint + Threads + Sync>(
+/// What a witness answers of the trace at a path, and of the record or the order at another. The two can't both be standard input.
+pub fn witnessed<R: AllocGlobal + Files + Input + Eprint + Threads + Sync>(
     rt: &R,
     judging: Judging,
     trace: &str,
     record: &str,
     progress: &Progress<'_, R>,
-) -> Result<u8, Failure>
-    ensures { IfErr result (λ failure. IsWitnessingFault trace.now «record».now failure.fault) }
-{
-    let WitnessedTrace { line, status } = witnessed(rt, judging, trace, record, progress)?;
-    write_bytes(rt, STANDARD, line.as_bytes(), progress)?;
-    Ok(status)
-}
-
-/// What a witness answers of the trace at a path, and of the record or the order at another.
-fn witnessed<R: AllocGlobal + Files + Input + Eprint + Threads + Sync>(
-    rt: &R,
-    judging: Judging,
-    trace: &str,
-    record: &str,
-    progress: &Progress<'_, R>,
-) -> Result<WitnessedTrace, Failure>
+) -> Result<Told, Failure>
     ensures witnessed { IfOk result (AreWitnessedFiles judging) }
     ensures fault { IfErr result (λ failure. IsUnwitnessed trace.now «record».now failure.fault) }
 {
@@ -160,7 +102,7 @@ fn witnessed_by<R: AllocGlobal + Threads + Sync>(
     seen: &Trace,
     path: &str,
     held: &Payload,
-) -> Result<WitnessedTrace, Failure>
+) -> Result<Told, Failure>
     ensures witnessed { IfOk result (IsWitnessedTrace judging «seen».now held.now) }
     ensures fault { IfErr result (λ failure. IsFaultOfRecordIn path.now held.now failure.fault ⊎ IsFaultOfEvidenceAt path.now failure.fault) }
 {
@@ -179,26 +121,26 @@ fn by_record<R: AllocGlobal + Threads + Sync>(
     seen: &Trace,
     path: &str,
     held: &Payload,
-) -> Result<WitnessedTrace, Failure>
+) -> Result<Told, Failure>
     ensures witnessed { IfOk result (IsToldByRecord judging «seen».now held.now) }
     ensures fault { IfErr result (λ failure. IsFaultOfRecordIn path.now held.now failure.fault) }
 {
     let held = record_in(rt.alloc(), path, held)?;
     let witnessed = witness_record(rt, rt.alloc(), judging, seen, &held)?;
-    let line = witnessed.line(rt.alloc())?;
+    let text = witnessed.line(rt.alloc())?.into_bytes();
     let status = witnessed.status();
     forget(held);
-    Ok(WitnessedTrace { line, status })
+    Ok(Told { text, status })
 }
 
 /// What is answered of the trace by the order in the bytes of a file that was read from a path.
-fn by_order(alloc: Global, seen: &Trace, path: &str, held: &[u8]) -> Result<WitnessedTrace, Failure>
+fn by_order(alloc: Global, seen: &Trace, path: &str, held: &[u8]) -> Result<Told, Failure>
     ensures witnessed { IfOk result (IsToldByOrder «seen».now) }
     ensures fault { IfErr result (λ failure. IsFaultOfEvidenceAt path.now failure.fault) }
 {
     let held = order_in(alloc, path, held)?;
     let ordered = witness_order(alloc, seen, &held)?;
-    let line = ordered.line(alloc)?;
+    let text = ordered.line(alloc)?.into_bytes();
     let status = ordered.status();
-    Ok(WitnessedTrace { line, status })
+    Ok(Told { text, status })
 }

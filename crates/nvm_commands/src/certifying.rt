@@ -3,7 +3,7 @@ ghost use Rattle.std.specs.Prelude.{◌≡◌, ◌⊎◌, IfOk, IfErr, Some, str
 ghost use Rattle.nvm_commands.specs.Asked.{profile_asked};
 ghost use Rattle.nvm_commands.specs.Certified.{IsCertifiedFile, IsCertifyingFault, IsEvidenceFault, IsToldOf};
 ghost use Rattle.nvm_commands.specs.Fault.{IsFaultOfTraceAt};
-ghost use Rattle.nvm_commands.specs.Files.{IsReadFault, IsWriteFault};
+ghost use Rattle.nvm_commands.specs.Files.{IsReadFault};
 ghost use Rattle.nvm_judge.specs.Contradicted.{IsContradictedBy};
 ghost use Rattle.nvm_judge.specs.Explained.{IsExplainedBy};
 ghost use Rattle.nvm_standard.specs.OrderView.{seen_order};
@@ -14,8 +14,9 @@ ghost use Rattle.nvm_trace.specs.TraceView.{TraceView};
 use crate::certifying_words::CertifyWords;
 use crate::failure::{Failure, plain};
 use crate::fault::Fault;
-use crate::files::{check_no_lines, check_output, read_as_trace, write_bytes};
+use crate::files::{check_place, read_as_trace, write_bytes};
 use crate::front::{Progress, STANDARD, Telling};
+use crate::told::Told;
 use nvm_evidence::{
     OrderNumbers, contradiction_brief, contradiction_object, contradiction_text, explained_object,
     explained_text, most_together, unknown_object, unknown_text, write_contradiction, write_order,
@@ -28,6 +29,7 @@ use nvm_trace::Trace;
 use std::alloc::Global;
 use std::mem::forget;
 use std::rt::Files;
+use std::slice::from_ref;
 
 /// What was found out about a trace, held to a profile.
 #[derive(Clone, Copy)]
@@ -52,21 +54,20 @@ pub struct CertifiedTrace {
     pub status: u8,
 }
 
-/// Certifies the trace at a path, prints what was found out, and gives the exit status. The evidence is written first where it is to be
-/// kept, so that no text is printed of one that couldn't be.
-pub fn run_certify<R: AllocGlobal + Files + Input + Print + Eprint, S: Search>(
+/// Certifies the trace at a path, and writes the evidence where it is to be kept, before anything is printed: no text tells of evidence that
+/// couldn't be kept.
+pub fn certify<R: AllocGlobal + Files + Input + Print + Eprint, S: Search>(
     rt: &R,
     search: &S,
     words: &CertifyWords,
     progress: &Progress<'_, R>,
-) -> Result<u8, Failure>
+) -> Result<Told, Failure>
     ensures fault { IfErr result (λ failure. IsCertifyingFault words.now failure.fault) }
 {
     check_evidence(rt, words)?;
-    let told = certified(rt, search, words, progress)?;
-    kept(rt, words, &told, progress)?;
-    write_bytes(rt, STANDARD, told.text.as_bytes(), progress)?;
-    Ok(told.status)
+    let found = certified(rt, search, words, progress)?;
+    kept(rt, words, &found, progress)?;
+    Ok(Told::of(found.text, found.status))
 }
 
 /// Refuses a path for the evidence that is standard output's or the trace's, before anything is read.
@@ -75,17 +76,9 @@ fn check_evidence<R: Files + AllocGlobal>(rt: &R, words: &CertifyWords) -> Resul
 {
     match &words.evidence {
         Some(path) if path.as_str() == STANDARD => Err(plain(Fault::EvidenceAmongLines)),
-        Some(path) => check_place(rt, path.as_str(), words.trace.as_str()),
+        Some(path) => check_place(rt, path.as_str(), from_ref(&words.trace), "it is the trace"),
         None => Ok(()),
     }
-}
-
-/// Refuses a path that is the trace's, or that of the file to which standard output goes.
-fn check_place<R: Files + AllocGlobal>(rt: &R, path: &str, trace: &str) -> Result<(), Failure>
-    ensures { IfErr result (λ failure. IsWriteFault path.now failure.fault) }
-{
-    check_output(rt, path, trace, "it is the trace")?;
-    check_no_lines(rt, path)
 }
 
 /// Writes the evidence where there is some and it is to be kept.

@@ -49,9 +49,7 @@ impl CertifyWords {
 
 /// What the words say.
 pub fn read_certify(alloc: Global, words: &ArgMatches<'_>) -> Result<CertifyWords, WordFault> {
-    let Some(effort) = number_of_32_bits(alloc, words, "effort")? else {
-        return Err(WordFault::Missing);
-    };
+    let effort = number_of_32_bits(alloc, words, "effort")?;
     Ok(CertifyWords {
         telling: telling_of(words),
         data: words.get_flag("data"),

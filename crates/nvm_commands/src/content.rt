@@ -1,3 +1,4 @@
+//! What a file that isn't what was wanted looks like.
 use nvm_evidence::is_evidence;
 use nvm_list::{first_word, without_comment};
 

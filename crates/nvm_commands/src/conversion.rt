@@ -1,3 +1,4 @@
+//! Lists and files as what they hold, or the fault of one that isn't whole.
 ghost use Rattle.std.specs.Prelude.{◌≡◌, Ok, IfOk, IfErr, string_bytes};
 ghost use Rattle.nvm_file.specs.Reading.{record_at};
 ghost use Rattle.nvm_file.specs.TraceFile.{IsTraceFile};

@@ -8,35 +8,12 @@ use crate::words::Asked;
 use clap::{ArgMatches, Command, Error};
 use std::alloc::Global;
 
-/// What `nvq assemble` is asked.
-pub fn assemble_asked(alloc: Global, words: &ArgMatches<'_>) -> Result<Asked, WordFault>
-    ensures { IfOk result IsAsked }
-{
-    let Some(size) = size_given(alloc, words)? else {
-        return Err(WordFault::Missing);
-    };
-    let list = path_named(alloc, words, "list")?;
-    let out = path_named(alloc, words, "out")?;
-    Ok(Asked::Assemble { size, list, out })
-}
-
-/// What `nvq trace` is asked.
-pub fn trace_asked(alloc: Global, words: &ArgMatches<'_>) -> Result<Asked, WordFault>
-    ensures { IfOk result IsAsked }
-{
-    let text = path_named(alloc, words, "text")?;
-    let out = path_named(alloc, words, "out")?;
-    Ok(Asked::Trace { text, out })
-}
-
 /// What `nvq list` is asked.
 pub fn list_asked(alloc: Global, words: &ArgMatches<'_>) -> Result<Asked, WordFault>
     ensures { IfOk result IsAsked }
 {
-    let (Some(size), Some(file)) = (size_given(alloc, words)?, words.get_str("file")) else {
-        return Err(WordFault::Missing);
-    };
-    let file = String::from_str(alloc, file)?;
+    let size = size_given(alloc, words)?;
+    let file = path_named(alloc, words, "file")?;
     if words.get_flag("json") {
         Ok(Asked::ListObjects(file))
     } else {

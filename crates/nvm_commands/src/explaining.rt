@@ -2,14 +2,14 @@
 //! trace.
 ghost use Rattle.std.specs.Prelude.{◌⊎◌, IfErr};
 ghost use Rattle.nvm_commands.specs.Audited.{IsUnwitnessed};
-ghost use Rattle.nvm_commands.specs.Explained.{IsExplainingFault, IsStoryFault, IsUntold};
+ghost use Rattle.nvm_commands.specs.Explained.{IsStoryFault, IsUntold};
 ghost use Rattle.nvm_commands.specs.Fault.{IsFaultOfEvidenceAt, IsFaultOfRecordAt, IsFaultOfRecordIn};
 ghost use Rattle.nvm_commands.specs.Files.{IsReadFault};
 
 use crate::explaining_words::ExplainWords;
 use crate::failure::Failure;
-use crate::files::{check_apart, evidence_in, payload_of, record_in, trace_in, write_bytes};
-use crate::front::{InputKind, Progress, STANDARD};
+use crate::files::{check_apart, evidence_in, payload_of, read_as_record, record_in, trace_in};
+use crate::front::{InputKind, Progress};
 use nvm_evidence::{Evidence, contradiction_story, is_evidence, order_story};
 use nvm_explain::{explain, witness_story};
 use nvm_record::Payload;
@@ -19,20 +19,9 @@ use std::mem::forget;
 use std::rt::Files;
 use std::thread::Threads;
 
-/// Explains what the words name, on standard output.
-pub fn run_explain<R: AllocGlobal + Files + Input + Print + Eprint + Threads + Sync>(
-    rt: &R,
-    words: &ExplainWords,
-    progress: &Progress<'_, R>,
-) -> Result<(), Failure>
-    ensures { IfErr result (λ failure. IsExplainingFault words.now failure.fault) }
-{
-    let text = told(rt, words, progress)?;
-    write_bytes(rt, STANDARD, text.as_bytes(), progress)
-}
-
-/// The explanation of what the words name.
-fn told<R: AllocGlobal + Files + Input + Eprint + Threads + Sync>(
+/// The explanation that the words ask for: of a record, or of a trace and what the file at another path says of it. The two can't both be
+/// standard input.
+pub fn explained<R: AllocGlobal + Files + Input + Eprint + Threads + Sync>(
     rt: &R,
     words: &ExplainWords,
     progress: &Progress<'_, R>,
@@ -55,10 +44,12 @@ fn record_explained<R: AllocGlobal + Files + Input + Eprint + Threads + Sync>(
     path: &str,
     progress: &Progress<'_, R>,
 ) -> Result<String, Failure>
-    ensures { IfErr result (λ failure. IsReadFault path.now failure.fault ⊎ IsFaultOfRecordAt path.now failure.fault) }
+    ensures fault { IfErr result (λ failure. IsReadFault path.now failure.fault ⊎ IsFaultOfRecordAt path.now failure.fault) }
 {
-    let held = payload_of(rt, InputKind::File, path, progress)?;
-    explained_of(rt, path, &held, progress)
+    let run = read_as_record(rt, path, progress)?;
+    let text = explain(rt, rt.alloc(), &run, progress)?;
+    forget(run);
+    Ok(text)
 }
 
 /// The explanation of the trace at a path, and of what the file at another says of it. The two can't both be standard input.
@@ -75,21 +66,6 @@ fn trace_explained<R: AllocGlobal + Files + Input + Eprint + Threads + Sync>(
     let seen = payload_of(rt, InputKind::Text, trace, progress)?;
     let held = payload_of(rt, InputKind::File, evidence, progress)?;
     story_of(rt, judging, trace, &seen, evidence, &held)
-}
-
-/// The explanation of the record in the bytes of a file that was read from a path, or the file's fault.
-fn explained_of<R: AllocGlobal + Eprint + Threads + Sync>(
-    rt: &R,
-    path: &str,
-    file: &Payload,
-    progress: &Progress<'_, R>,
-) -> Result<String, Failure>
-    ensures { IfErr result (λ failure. IsFaultOfRecordIn path.now file.now failure.fault) }
-{
-    let run = record_in(rt.alloc(), path, file)?;
-    let text = explain(rt, rt.alloc(), &run, progress)?;
-    forget(run);
-    Ok(text)
 }
 
 /// The explanation of the trace that bytes say which were read from a path, and of the record or the evidence in those of another file; or

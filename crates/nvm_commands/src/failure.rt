@@ -1,15 +1,12 @@
+//! Failures: a fault, and the hint on the line below it.
 ghost use Rattle.std.specs.Prelude.{◌≡◌};
 ghost use Rattle.nvm_commands.specs.declared.fault.Fault.TheVariants.{NoMemory};
 
-use crate::content::Content;
 use crate::fault::Fault;
-use crate::hint::{
-    VERSIONS, no_host_file, no_list, no_namespace, no_record, no_trace, no_words, of_contradiction,
-    other_block,
-};
+use crate::hint::{VERSIONS, Wanted, about, instead, no_namespace, other_block};
 use crate::text_failure::wrong_text;
 use nvm_explain::field_told;
-use nvm_record::{BlockSize, Payload};
+use nvm_record::Payload;
 use std::alloc::{AllocError, AllocFailed, Global};
 use std::fmt;
 
@@ -87,20 +84,6 @@ pub fn plain(fault: Fault) -> Failure
     Failure { fault, hint: None }
 }
 
-/// The failure of a list that was read from a path, which has a wrong expectation. What helps is what the file is instead, or else the
-/// line.
-pub fn of_list(alloc: Global, fault: Fault, path: &str, list: &[u8]) -> Failure
-    ensures { result.fault ≡ fault }
-{
-    let hint = match fault {
-        Fault::Expectation { line, .. } => {
-            or_line(alloc, no_list(alloc, path, list), list, line)
-        }
-        _ => Ok(None),
-    };
-    Failure::hinted(fault, hint)
-}
-
 /// The failure of a run of `count` lists.
 pub fn of_run(alloc: Global, fault: Fault, count: usize) -> Failure
     ensures { result.fault ≡ fault }
@@ -115,44 +98,17 @@ pub fn of_run(alloc: Global, fault: Fault, count: usize) -> Failure
     }
 }
 
-/// The failure of a file that was read from a path and should be listed.
-pub fn of_file(alloc: Global, fault: Fault, path: &str, file: &Payload, size: BlockSize) -> Failure
+/// The failure of a file that was read from a path and isn't what was wanted.
+pub fn of_file(alloc: Global, fault: Fault, path: &str, file: &Payload, wanted: Wanted) -> Failure
     ensures { result.fault ≡ fault }
 {
     let hint = match fault {
-        Fault::BadName { .. } => no_host_file(alloc, path, file.as_slice()).map(Some),
+        Fault::BadName { .. } => instead(alloc, path, file.as_slice(), wanted),
         Fault::UnknownVersion { .. } => String::from_str(alloc, VERSIONS).map(Some),
         Fault::BadValue { at, .. }
         | Fault::BeganAtZero { at, .. }
         | Fault::EndedBefore { at, .. } => { field_told(alloc, file.as_slice(), at) }
-        Fault::Truncated { .. } | Fault::TooMany { .. } => other_block(alloc, file, size.bytes()),
-        _ => Ok(None),
-    };
-    Failure::hinted(fault, hint)
-}
-
-/// The failure of a file that was read from a path and should be a record.
-pub fn of_record(alloc: Global, fault: Fault, path: &str, file: &[u8]) -> Failure
-    ensures { result.fault ≡ fault }
-{
-    let hint = match fault {
-        Fault::BadName { .. } => no_record(alloc, path, file).map(Some),
-        Fault::UnknownVersion { .. } => String::from_str(alloc, VERSIONS).map(Some),
-        Fault::BadValue { at, .. } => field_told(alloc, file, at),
-        _ => Ok(None),
-    };
-    Failure::hinted(fault, hint)
-}
-
-/// The failure of a file that was read from a path and should be a trace.
-pub fn of_trace(alloc: Global, fault: Fault, path: &str, file: &[u8]) -> Failure
-    ensures { result.fault ≡ fault }
-{
-    let hint = match fault {
-        Fault::BadName { .. } => no_trace(alloc, path, file).map(Some),
-        Fault::BadValue { at, .. }
-        | Fault::BeganAtZero { at, .. }
-        | Fault::EndedBefore { at, .. } => { field_told(alloc, file, at) }
+        Fault::Truncated { .. } | Fault::TooMany { .. } => other_block(alloc, file, wanted),
         _ => Ok(None),
     };
     Failure::hinted(fault, hint)
@@ -164,50 +120,35 @@ pub fn of_text(alloc: Global, fault: Fault, path: &str, text: &[u8]) -> Failure
 {
     let hint = match fault {
         Fault::TraceLine { line, expected } => wrong_text(alloc, path, text, line, expected),
-        Fault::NoHead => no_words(alloc, path).map(Some),
+        Fault::NoHead => about(alloc, path, "has no line with words").map(Some),
         _ => Ok(None),
     };
     Failure::hinted(fault, hint)
-}
-
-/// The failure of a file of evidence that was read from a path and should be an order.
-pub fn of_order(alloc: Global, fault: Fault, path: &str, file: &[u8]) -> Failure
-    ensures { result.fault ≡ fault }
-{
-    let hint = match Content::of(file) {
-        Content::Contradiction => of_contradiction(alloc, path).map(Some),
-        _ => Ok(None),
-    };
-    Failure::hinted(fault, hint)
-}
-
-/// What helps where a line of text is wrong: what the file is instead, or else the line.
-fn or_line(
-    alloc: Global,
-    instead: Result<Option<String>, AllocError>,
-    text: &[u8],
-    line: u64,
-) -> Result<Option<String>, AllocError> {
-    match instead? {
-        None => line_of(alloc, text, line),
-        told => Ok(told),
-    }
 }
 
 fn too_many(alloc: Global, count: usize) -> Result<Option<String>, AllocError> {
     Ok(Some(format!(in alloc; "there are {count} lists, and at most 64 can be run")?))
 }
 
-/// The front of a list's line, from the first that is no blank. Lines count from 1. `None` where it isn't plain text.
-pub fn line_of(alloc: Global, list: &[u8], number: u64) -> Result<Option<String>, AllocError> {
-    match shown_line(list, number) {
-        Some(shown) => Ok(Some(format!(in alloc; "the line is: {shown}")?)),
-        None => Ok(None),
-    }
+/// The front of a line of a text, which is that of a path where one is given. Lines count from 1. `None` where it isn't plain text.
+pub fn line_of(
+    alloc: Global,
+    path: Option<&str>,
+    text: &[u8],
+    number: u64,
+) -> Result<Option<String>, AllocError> {
+    let Some(shown) = shown_line(text, number) else {
+        return Ok(None);
+    };
+    let told = match path {
+        Some(path) => format!(in alloc; "the line of {path} is: {shown}"),
+        None => format!(in alloc; "the line is: {shown}"),
+    };
+    told.map(Some)
 }
 
-/// The front of a text's line as it is shown.
-pub fn shown_line(text: &[u8], number: u64) -> Option<&str> {
+/// The front of a text's line as it is shown, from the first that is no blank.
+fn shown_line(text: &[u8], number: u64) -> Option<&str> {
     let line = text
         .split(|byte| *byte == b'\n')
         .nth(number.saturating_sub(1) as usize)?;

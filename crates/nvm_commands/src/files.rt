@@ -1,3 +1,4 @@
+//! Records, traces and evidence as they are read from paths, what is written, and the failures of both.
 ghost use Rattle.std.specs.Prelude.{◌≡◌, ◌⊎◌, ℕ, true, List, Ok, IfOk, IfErr};
 ghost use Rattle.nvm_file.specs.Reading.{record_at};
 ghost use Rattle.nvm_file.specs.TraceFile.{IsTraceFile};
@@ -8,13 +9,13 @@ ghost use Rattle.nvm_commands.specs.Files.{IsReadFault, IsWriteFault};
 ghost use Rattle.nvm_commands.specs.Traced.{SaysTrace, begins_as_file};
 
 use crate::conversion::{record_of, trace_of};
-use crate::failure::{Failure, of_order, of_record, of_text, of_trace, plain};
+use crate::failure::{Failure, of_file, of_text, plain};
 use crate::fault::Fault;
 use crate::front::{
     FileFault, InputKind, Output, Progress, STANDARD, is_input, is_output, is_read, read_input,
     write, write_run,
 };
-use crate::hint::refusal;
+use crate::hint::{Wanted, instead, refusal};
 use nvm_audit::Record;
 use nvm_evidence::{Evidence, HeldOrder, read_evidence, read_order};
 use nvm_file::write_host;
@@ -74,7 +75,7 @@ pub fn record_in(alloc: Global, path: &str, file: &Payload) -> Result<Record, Fa
     let named = String::from_str(alloc, path)?;
     match record_of(alloc, named, file) {
         Ok(run) => Ok(run),
-        Err(fault) => Err(of_record(alloc, fault, path, file.as_slice())),
+        Err(fault) => Err(of_file(alloc, fault, path, file, Wanted::Record)),
     }
 }
 
@@ -96,7 +97,10 @@ pub fn order_in<'f>(alloc: Global, path: &str, file: &'f [u8]) -> Result<HeldOrd
     let named = String::from_str(alloc, path)?;
     match read_order(alloc, file) {
         Ok(held) => Ok(held),
-        Err(fault) => Err(of_order(alloc, Fault::of_evidence(named, fault), path, file)),
+        Err(fault) => {
+            let hint = instead(alloc, path, file, Wanted::Order);
+            Err(Failure::hinted(Fault::of_evidence(named, fault), hint))
+        }
     }
 }
 
@@ -141,7 +145,7 @@ fn trace_of_file(alloc: Global, path: &str, file: &Payload) -> Result<Trace, Fai
     let named = String::from_str(alloc, path)?;
     match trace_of(alloc, named, file) {
         Ok(trace) => Ok(trace),
-        Err(fault) => Err(of_trace(alloc, fault, path, file.as_slice())),
+        Err(fault) => Err(of_file(alloc, fault, path, file, Wanted::Trace)),
     }
 }
 
@@ -176,10 +180,7 @@ pub fn write_bytes<R: Files + AllocGlobal + Print + Eprint>(
 ) -> Result<(), Failure>
     ensures { IfErr result (λ failure. IsWriteFault path.now failure.fault) }
 {
-    match write(rt, path, bytes, progress) {
-        Ok(()) => Ok(()),
-        Err(fault) => Err(unmade(rt.alloc(), path, fault)),
-    }
+    made(rt.alloc(), path, write(rt, path, bytes, progress))
 }
 
 /// Writes the host file of commands to a file, or to standard output.
@@ -191,10 +192,11 @@ pub fn write_host_file<R: Files + AllocGlobal + Print + Eprint>(
 ) -> Result<(), Failure>
     ensures { IfErr result (λ failure. IsWriteFault path.now failure.fault) }
 {
-    match host_file_written(rt, path, commands, progress) {
-        Ok(()) => Ok(()),
-        Err(fault) => Err(unmade(rt.alloc(), path, fault)),
-    }
+    made(
+        rt.alloc(),
+        path,
+        host_file_written(rt, path, commands, progress),
+    )
 }
 
 /// The same. A file appears whole or not at all.
@@ -219,10 +221,7 @@ pub fn keep<R: AllocGlobal + Files + Print + Eprint>(
 ) -> Result<(), Failure>
     ensures { IfErr result (λ failure. IsWriteFault path.now failure.fault) }
 {
-    match write_run(rt, path, run, progress) {
-        Ok(()) => Ok(()),
-        Err(fault) => Err(unmade(rt.alloc(), path, fault)),
-    }
+    made(rt.alloc(), path, write_run(rt, path, run, progress))
 }
 
 /// Refuses a path to write at which the file to read is, before anything is read. The hint below the fault says why.
@@ -241,7 +240,7 @@ pub fn check_output<R: Files + AllocGlobal>(
 }
 
 /// Refuses a path to write that is the file which standard output goes to, before anything is written.
-pub fn check_no_lines<R: Files + AllocGlobal>(rt: &R, out: &str) -> Result<(), Failure>
+fn check_no_lines<R: Files + AllocGlobal>(rt: &R, out: &str) -> Result<(), Failure>
     ensures { IfErr result (λ failure. IsWriteFault out.now failure.fault) }
 {
     if is_output(rt, out)? {
@@ -266,7 +265,17 @@ pub fn check_place<R: Files + AllocGlobal>(
     check_no_lines(rt, out)
 }
 
-/// The failure of what couldn't be written to a path.
+/// What came of a file that was to be written to a path.
+pub fn made(alloc: Global, path: &str, written: Result<(), FileFault>) -> Result<(), Failure>
+    ensures { IfErr result (λ failure. IsWriteFault path.now failure.fault) }
+{
+    match written {
+        Ok(()) => Ok(()),
+        Err(fault) => Err(unmade(alloc, path, fault)),
+    }
+}
+
+/// The failure of a file that couldn't be made. Want of memory isn't the file's fault.
 pub fn unmade(alloc: Global, path: &str, fault: FileFault) -> Failure
     ensures { IsWriteFault path.now result.fault }
 {

@@ -17,7 +17,9 @@ mod unfinished;
 mod version;
 mod words;
 
-pub use arguments::{file_argument, file_arguments, flag, path_given, path_named, path_option};
+pub use arguments::{
+    file_argument, file_arguments, flag, path_given, path_named, path_option, paths_named,
+};
 pub use failure::failed;
 pub use files::{
     FileFault, InputKind, STANDARD, is_input, is_one_output, is_output, is_read, read_input, write,
@@ -31,9 +33,8 @@ pub use number_options::{
     Expected, number_given, number_of_16_bits, number_of_32_bits, number_of_64_bits, number_option,
     size_given,
 };
-pub use number_word::{NumberFault, number};
 pub use output::Output;
 pub use progress::{JobProgress, Progress};
 pub use run_options::{limit, limit_given, nabo, nabsn, nsze, workers_given};
 pub use version::VERSION;
-pub use words::{UNWRITTEN, WordFault, owned, tell, words_given};
+pub use words::{UNWRITTEN, WordFault, tell, words_given};

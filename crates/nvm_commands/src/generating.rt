@@ -6,10 +6,9 @@ ghost use Rattle.nvm_commands.specs.Generated.{AreListsOfLoad, IsGeneratingFault
 
 use crate::failure::{Failure, of_run};
 use crate::fault::Fault;
-use crate::files::{unmade, unwritten};
+use crate::files::{made, unmade, unwritten};
 use crate::front::{FileFault, Output, Progress, is_one_output};
 use crate::generating_words::GenerateWords;
-use crate::namespace_words::NamespaceWords;
 use nvm_generate::{Load, list_of_load};
 use nvm_geometry::Geometry;
 use nvm_plan::MOST_HOSTS;
@@ -50,15 +49,15 @@ fn load_of(words: &GenerateWords) -> Result<Load, Fault>
     if words.outs.len() > MOST_HOSTS as usize {
         return Err(Fault::TooManyHosts);
     }
-    let NamespaceWords {
-        size,
-        nsze,
-        nabsn,
-        nabo,
-        nawun,
-        nacwu,
-    } = words.namespace;
-    match Geometry::new(nsze, size.bytes(), nabsn, nabo, nawun, nacwu) {
+    let it = &words.namespace;
+    match Geometry::new(
+        it.nsze,
+        it.size.bytes(),
+        it.nabsn,
+        it.nabo,
+        it.nawun,
+        it.nacwu,
+    ) {
         Ok(geometry) => Ok(Load {
             seed: words.seed,
             commands: words.commands,
@@ -116,34 +115,23 @@ fn write_lists<'a, R: AllocGlobal + Files + Print + Eprint>(
 {
     let mut outputs = VecDeque::with_capacity(rt.alloc(), outs.len())?;
     for (place, out) in outs.iter().enumerate() {
-        let text = texts[place].as_str();
-        outputs.push_back(written(rt, out.as_str(), text, progress)?)?;
+        let (path, text) = (out.as_str(), texts[place].as_str());
+        match filled(rt, path, text, progress) {
+            Ok(output) => outputs.push_back(output)?,
+            Err(fault) => return Err(unmade(rt.alloc(), path, fault)),
+        }
     }
     // A link that led to nothing leads to its file now.
     check_outs(rt, outs)?;
     for out in outs {
         if let Some(output) = outputs.pop_front() {
-            finish(rt.alloc(), out.as_str(), output)?;
+            made(rt.alloc(), out.as_str(), output.finish())?;
         }
     }
     Ok(())
 }
 
-/// A text that is written to a path, but for what takes the file to its place.
-fn written<'a, R: AllocGlobal + Files + Print + Eprint>(
-    rt: &'a R,
-    out: &'a str,
-    text: &str,
-    progress: &'a Progress<'a, R>,
-) -> Result<Output<'a, R>, Failure>
-    ensures { IfErr result (λ failure. IsWriteFault out.now failure.fault) }
-{
-    match filled(rt, out, text, progress) {
-        Ok(output) => Ok(output),
-        Err(fault) => Err(unmade(rt.alloc(), out, fault)),
-    }
-}
-
+/// A text that is written to a path, and not yet in its place.
 fn filled<'a, R: AllocGlobal + Files + Print + Eprint>(
     rt: &'a R,
     out: &'a str,
@@ -154,18 +142,4 @@ fn filled<'a, R: AllocGlobal + Files + Print + Eprint>(
     output.write_all(text.as_bytes())?;
     output.flush()?;
     Ok(output)
-}
-
-/// Takes what is written to its path.
-fn finish<R: Files + Print + Eprint>(
-    alloc: Global,
-    out: &str,
-    output: Output<'_, R>,
-) -> Result<(), Failure>
-    ensures { IfErr result (λ failure. IsWriteFault out.now failure.fault) }
-{
-    match output.finish() {
-        Ok(()) => Ok(()),
-        Err(fault) => Err(unmade(alloc, out, fault)),
-    }
 }

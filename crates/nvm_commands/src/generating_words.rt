@@ -3,7 +3,7 @@ ghost use Rattle.std.specs.Prelude.{◌≤◌, IfOk, length};
 
 use crate::front::{
     WordFault, file_arguments, number_given, number_of_16_bits, number_of_64_bits, number_option,
-    owned,
+    paths_named,
 };
 use crate::namespace_words::{NamespaceWords, read_namespace, with_namespace};
 use clap::{Arg, ArgMatches, Command, Error};
@@ -26,41 +26,30 @@ pub struct GenerateWords {
 pub fn read_generate(alloc: Global, words: &ArgMatches<'_>) -> Result<GenerateWords, WordFault>
     ensures { IfOk result (λ load. 1 ≤ length load.outs.items) }
 {
-    let (Some(seed), Some(commands), Some(paths)) = (
-        number_of_64_bits(alloc, words, "seed")?,
-        number_given(alloc, words, "commands", 1, 65_535)?,
-        words.get_strs("out"),
-    ) else {
+    let seed = number_of_64_bits(alloc, words, "seed")?;
+    let Some(commands) = number_given(alloc, words, "commands", 1, 65_535)? else {
         return Err(WordFault::Missing);
     };
-    if paths.is_empty() {
-        return Err(WordFault::Missing);
-    }
     Ok(GenerateWords {
         seed,
         commands: commands as u16,
         namespace: read_namespace(alloc, words)?,
         mix: mix_of(alloc, words)?,
-        outs: owned(alloc, paths)?,
+        outs: paths_named(alloc, words, "out")?,
     })
 }
 
 /// The weights of the kinds.
 fn mix_of(alloc: Global, words: &ArgMatches<'_>) -> Result<Mix, WordFault> {
     Ok(Mix {
-        write: weight_of(alloc, words, "write")?,
-        read: weight_of(alloc, words, "read")?,
-        compare: weight_of(alloc, words, "compare")?,
-        pair: weight_of(alloc, words, "pair")?,
-        zeroes: weight_of(alloc, words, "zeroes")?,
-        uncorrectable: weight_of(alloc, words, "uncorrectable")?,
-        deallocate: weight_of(alloc, words, "deallocate")?,
+        write: number_of_16_bits(alloc, words, "write")?,
+        read: number_of_16_bits(alloc, words, "read")?,
+        compare: number_of_16_bits(alloc, words, "compare")?,
+        pair: number_of_16_bits(alloc, words, "pair")?,
+        zeroes: number_of_16_bits(alloc, words, "zeroes")?,
+        uncorrectable: number_of_16_bits(alloc, words, "uncorrectable")?,
+        deallocate: number_of_16_bits(alloc, words, "deallocate")?,
     })
-}
-
-/// The weight of a kind.
-fn weight_of(alloc: Global, words: &ArgMatches<'_>, kind: &'static str) -> Result<u16, WordFault> {
-    number_of_16_bits(alloc, words, kind)?.ok_or(WordFault::Missing)
 }
 
 /// `nvq generate`.

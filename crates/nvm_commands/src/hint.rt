@@ -26,158 +26,105 @@ pub fn refusal(kind: ErrorKind) -> Option<&'static str> {
     }
 }
 
-/// What a file is, of which a host file was expected at its front.
-pub fn no_host_file(alloc: Global, path: &str, bytes: &[u8]) -> Result<String, AllocError> {
-    let name = name_of(path);
-    match Content::of(bytes) {
-        Content::Empty => format!(in alloc; "{name} is empty, and a host file begins with NVQ1"),
-        Content::TraceText => of_trace_text(alloc, path),
-        Content::List | Content::Text => {
-            format!(in alloc;
-                "{name} is text: nvq run {path} does the commands of a list, nvq assemble {path} HOSTFILE makes a host file of it"
-            )
-        }
-        Content::Record => {
-            format!(in alloc;
-                "{name} is a record: nvmu audit {path} judges it, nvq list {path} shows it"
-            )
-        }
-        Content::Trace => {
-            format!(in alloc;
-                "{name} is a trace: nvmu witness {path} REC judges it by a record, nvq certify {path} without one"
-            )
-        }
-        Content::Order => of_order(alloc, path),
-        Content::Contradiction => of_contradiction(alloc, path),
-        Content::HostFile | Content::Unknown => {
-            format!(in alloc; "{name} is no host file, which begins with NVQ1")
-        }
-    }
+/// What a file should have been.
+#[derive(Clone, Copy)]
+pub enum Wanted {
+    /// A host file, whose blocks have this size.
+    HostFile(BlockSize),
+    Record,
+    Trace,
+    Order,
+    List,
+    TraceText,
 }
 
-/// What a file is, of which a record was expected at its front.
-pub fn no_record(alloc: Global, path: &str, bytes: &[u8]) -> Result<String, AllocError> {
-    let name = name_of(path);
-    match Content::of(bytes) {
-        Content::Empty => {
-            format!(in alloc; "{name} is empty, and a record begins with NVR1 or NVR2")
-        }
-        Content::TraceText => of_trace_text(alloc, path),
-        Content::List | Content::Text => {
-            format!(in alloc;
-                "{name} is text, which no record is: nvmu run and nvq run write records"
-            )
-        }
-        Content::HostFile => {
-            format!(in alloc;
-                "{name} is a host file: nvmu run does its commands and writes a record"
-            )
-        }
-        Content::Trace => {
-            format!(in alloc;
-                "{name} is a trace: nvmu witness {path} REC judges it by a record, nvq certify {path} without one"
-            )
-        }
-        Content::Order => of_order(alloc, path),
-        Content::Contradiction => of_contradiction(alloc, path),
-        Content::Record | Content::Unknown => {
-            format!(in alloc; "{name} is no record, which begins with NVR1 or NVR2")
-        }
-    }
-}
-
-/// What a file of ours is, of which a trace was expected at its front.
-pub fn no_trace(alloc: Global, path: &str, bytes: &[u8]) -> Result<String, AllocError> {
-    let name = name_of(path);
-    match Content::of(bytes) {
-        Content::HostFile => {
-            format!(in alloc;
-                "{name} is a host file: nvmu run does its commands and writes a record"
-            )
-        }
-        Content::Record => {
-            format!(in alloc;
-                "{name} is a record: nvq audit {path} judges it; the trace comes first, and then the record"
-            )
-        }
-        Content::Order => of_order(alloc, path),
-        Content::Contradiction => of_contradiction(alloc, path),
-        _ => format!(in alloc; "{name} is no trace, which begins with NVT1"),
-    }
-}
-
-/// What a file is, of which a command list was expected, where it is none: a host file, a record, a trace or evidence.
-pub fn no_list(alloc: Global, path: &str, bytes: &[u8]) -> Result<Option<String>, AllocError> {
-    let name = name_of(path);
-    let told = match Content::of(bytes) {
-        Content::HostFile => {
-            format!(in alloc; "{name} is a host file: nvq list {path} makes a list of it")
-        }
-        Content::Record => format!(in alloc; "{name} is a record: nvq list {path} shows it"),
-        Content::Trace => format!(in alloc; "{name} is a trace: nvq list {path} shows it"),
-        Content::Order => of_order(alloc, path),
-        Content::Contradiction => of_contradiction(alloc, path),
-        Content::TraceText => of_trace_text(alloc, path),
-        Content::Empty | Content::List | Content::Text | Content::Unknown => return Ok(None),
-    };
-    told.map(Some)
-}
-
-/// What a file is, of which a trace's text was expected, where it is none: a file of ours or a command list.
-pub fn no_trace_text(
+/// What a file is instead of what was wanted, where something is said of that.
+pub fn instead(
     alloc: Global,
     path: &str,
     bytes: &[u8],
+    wanted: Wanted,
 ) -> Result<Option<String>, AllocError> {
-    match Content::of(bytes) {
-        Content::TraceText => Ok(None),
-        Content::List => {
-            let name = name_of(path);
-            Ok(Some(format!(in alloc;
-                "{name} is a command list: nvq run {path} does its commands"
-            )?))
-        }
-        _ => no_list(alloc, path, bytes),
+    match said_of(Content::of(bytes), wanted) {
+        Some(said) => Ok(Some(about(alloc, path, said)?)),
+        None => Ok(None),
     }
 }
 
-/// What a file is that has no line of a trace.
-pub fn no_words(alloc: Global, path: &str) -> Result<String, AllocError> {
-    let name = name_of(path);
-    format!(in alloc; "{name} has no line with words")
+/// What is said of a file where another kind was wanted. The path stands for each `@`.
+fn said_of(content: Content, wanted: Wanted) -> Option<&'static str> {
+    match (content, wanted) {
+        (Content::Contradiction, _) => Some(
+            "is a contradiction: nvmu refute TRACE @ judges it, nvq explain TRACE @ shows it",
+        ),
+        (_, Wanted::Order) => None,
+        (Content::Order, _) => Some(
+            "is an order: nvmu witness TRACE @ judges a trace by it, nvq explain TRACE @ shows it",
+        ),
+        (Content::TraceText, Wanted::TraceText) => None,
+        (Content::TraceText, _) => Some(
+            "is a trace's text: nvq certify @ judges it, nvq trace @ TRACE makes its file",
+        ),
+        (Content::List, Wanted::TraceText) => Some(
+            "is a command list: nvq run @ does its commands",
+        ),
+        (Content::HostFile, Wanted::List | Wanted::TraceText) => Some(
+            "is a host file: nvq list @ makes a list of it",
+        ),
+        (Content::Record, Wanted::List | Wanted::TraceText) => Some(
+            "is a record: nvq list @ shows it",
+        ),
+        (Content::Trace, Wanted::List | Wanted::TraceText) => Some(
+            "is a trace: nvq list @ shows it",
+        ),
+        (_, Wanted::List | Wanted::TraceText) => None,
+        (Content::HostFile, Wanted::Record | Wanted::Trace) => Some(
+            "is a host file: nvmu run does its commands and writes a record",
+        ),
+        (Content::Record, Wanted::HostFile(_)) => Some(
+            "is a record: nvmu audit @ judges it, nvq list @ shows it",
+        ),
+        (Content::Record, Wanted::Trace) => Some(
+            "is a record: nvq audit @ judges it; the trace comes first, and then the record",
+        ),
+        (_, Wanted::Trace) => Some("is no trace, which begins with NVT1"),
+        (Content::Trace, _) => Some(
+            "is a trace: nvmu witness @ REC judges it by a record, nvq certify @ without one",
+        ),
+        (Content::Empty, Wanted::HostFile(_)) => Some("is empty, and a host file begins with NVQ1"),
+        (Content::List | Content::Text, Wanted::HostFile(_)) => Some(
+            "is text: nvq run @ does the commands of a list, nvq assemble @ HOSTFILE makes a host file of it",
+        ),
+        (_, Wanted::HostFile(_)) => Some("is no host file, which begins with NVQ1"),
+        (Content::Empty, Wanted::Record) => Some("is empty, and a record begins with NVR1 or NVR2"),
+        (Content::List | Content::Text, Wanted::Record) => Some(
+            "is text, which no record is: nvmu run and nvq run write records",
+        ),
+        (_, Wanted::Record) => Some("is no record, which begins with NVR1 or NVR2"),
+    }
 }
 
-/// What the text of a trace is, where another file was expected.
-fn of_trace_text(alloc: Global, path: &str) -> Result<String, AllocError> {
-    let name = name_of(path);
-    format!(in alloc;
-        "{name} is a trace's text: nvq certify {path} judges it, nvq trace {path} TRACE makes its file"
-    )
+/// What is said of the file at a path, which stands for each `@`.
+pub fn about(alloc: Global, path: &str, said: &str) -> Result<String, AllocError> {
+    let name = if path == STANDARD {
+        "standard input"
+    } else {
+        path
+    };
+    let said = said.replace(alloc, "@", path)?;
+    format!(in alloc; "{name} {said}")
 }
 
-/// What an order's file is, where another was expected.
-fn of_order(alloc: Global, path: &str) -> Result<String, AllocError> {
-    let name = name_of(path);
-    format!(in alloc;
-        "{name} is an order: nvmu witness TRACE {path} judges a trace by it, nvq explain TRACE {path} shows it"
-    )
-}
-
-/// What a contradiction's file is, where another was expected.
-pub fn of_contradiction(alloc: Global, path: &str) -> Result<String, AllocError> {
-    let name = name_of(path);
-    format!(in alloc;
-        "{name} is a contradiction: nvmu refute TRACE {path} judges it, nvq explain TRACE {path} shows it"
-    )
-}
-
-/// With which block size a file is a host file, which it isn't with blocks of `block` bytes. `None` where there is no such size.
+/// With which other block size a file is a host file, where one was wanted. `None` where there is no such size.
 pub fn other_block(
     alloc: Global,
     file: &Payload,
-    block: u32,
+    wanted: Wanted,
 ) -> Result<Option<String>, AllocError> {
-    let other = if block == 512 { 4096 } else { 512 };
+    let Wanted::HostFile(wanted) = wanted else {
+        return Ok(None);
+    };
+    let other = if wanted.bytes() == 512 { 4096 } else { 512 };
     let Some(size) = BlockSize::new(other) else {
         return Ok(None);
     };
@@ -202,14 +149,5 @@ pub fn no_namespace(fault: GeometryFault) -> &'static str {
         GeometryFault::TooManyUnits => {
             "--nabsn cuts --nsze blocks into more than 4096 units: a larger --nabsn makes fewer"
         }
-    }
-}
-
-/// What a path is called in a sentence.
-fn name_of(path: &str) -> &str {
-    if path == STANDARD {
-        "standard input"
-    } else {
-        path
     }
 }

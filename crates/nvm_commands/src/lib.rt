@@ -33,6 +33,7 @@ mod run_paths;
 mod running;
 mod running_words;
 mod text_failure;
+mod told;
 mod told_run;
 mod tracing;
 mod words;

@@ -3,7 +3,7 @@ ghost use Rattle.std.specs.Prelude.{◌≡◌};
 
 use crate::failure::{Failure, line_of};
 use crate::fault::Fault;
-use crate::hint::no_list;
+use crate::hint::{Wanted, instead};
 use nvm_listing::{WrongLine, wrong_lines};
 use nvm_record::BlockSize;
 use std::alloc::{AllocError, Global};
@@ -32,7 +32,21 @@ pub fn of_commands(
     Failure::hinted(fault, hint)
 }
 
-/// What helps where a line is no command: what the file is instead, or else the line and the wrong ones after it.
+/// What helps where a line of a list is wrong: what the file is instead, or else the line.
+pub fn wrong_line(
+    alloc: Global,
+    path: &str,
+    list: &[u8],
+    line: u64,
+) -> Result<Option<String>, AllocError> {
+    match instead(alloc, path, list, Wanted::List)? {
+        None => line_of(alloc, None, list, line),
+        told => Ok(told),
+    }
+}
+
+/// What helps where a line is no command: what the file is instead, or else the line, and on further lines what was expected in each of the
+/// wrong ones after it, or how many more there are.
 fn wrong_commands(
     alloc: Global,
     path: &str,
@@ -41,24 +55,14 @@ fn wrong_commands(
     commands: &[u8],
     size: BlockSize,
 ) -> Result<Option<String>, AllocError> {
-    if let Some(told) = no_list(alloc, path, list)? {
+    if let Some(told) = instead(alloc, path, list, Wanted::List)? {
         return Ok(Some(told));
     }
-    let first = line_of(alloc, list, line)?;
-    let wrong = wrong_lines(alloc, commands, size)?;
-    with_others(alloc, first, &wrong)
-}
-
-/// What is said of the first wrong line, and on further lines what was expected in each of the others, or how many more there are.
-fn with_others(
-    alloc: Global,
-    first: Option<String>,
-    wrong: &[WrongLine],
-) -> Result<Option<String>, AllocError> {
     let mut lines = Vec::new(alloc);
-    if let Some(first) = first {
+    if let Some(first) = line_of(alloc, None, list, line)? {
         lines.push(first)?;
     }
+    let wrong = wrong_lines(alloc, commands, size)?;
     for WrongLine { line, expected } in wrong.iter().skip(1).take(TOLD) {
         lines.push(format!(in alloc; "line {line}: {expected}")?)?;
     }

@@ -1,33 +1,20 @@
 //! `nvq list --json`: what a record holds as objects of JSON, and that of its verdict.
 ghost use Rattle.std.specs.Prelude.{◌⊎◌, IfOk, IfErr, string_bytes};
-ghost use Rattle.nvm_commands.specs.Audited.{IsAuditingFault};
 ghost use Rattle.nvm_commands.specs.Fault.{IsFaultOfRecordAt};
 ghost use Rattle.nvm_commands.specs.Files.{IsReadFault};
 ghost use Rattle.nvm_commands.specs.Listed.{AreObjectsOfFile};
 
 use crate::failure::Failure;
-use crate::files::{read_as_record, write_bytes};
-use crate::front::{Progress, STANDARD};
+use crate::files::read_as_record;
+use crate::front::Progress;
 use nvm_engine::judge_watched;
 use nvm_listing::list_as_objects;
 use std::mem::forget;
 use std::rt::Files;
 use std::thread::Threads;
 
-/// Lists the record at a path as objects on standard output. Another file is a fault, as it is to an audit.
-pub fn run_list_objects<R: AllocGlobal + Files + Input + Print + Eprint + Threads + Sync>(
-    rt: &R,
-    record: &str,
-    progress: &Progress<'_, R>,
-) -> Result<(), Failure>
-    ensures { IfErr result (λ failure. IsAuditingFault «record».now failure.fault) }
-{
-    let text = objects_listed(rt, record, progress)?;
-    write_bytes(rt, STANDARD, text.as_bytes(), progress)
-}
-
-/// The objects of the record at a path, and after them that of its verdict.
-fn objects_listed<R: AllocGlobal + Files + Input + Eprint + Threads + Sync>(
+/// The objects of the record at a path, and after them that of its verdict. Another file is a fault, as it is to an audit.
+pub fn objects_listed<R: AllocGlobal + Files + Input + Eprint + Threads + Sync>(
     rt: &R,
     record: &str,
     progress: &Progress<'_, R>,

@@ -1,7 +1,8 @@
 //! The words that say what the namespace is like, of `nvq run` and `nvq generate`.
 
 use crate::front::{
-    WordFault, nabo, nabsn, nsze, number_of_16_bits, number_of_64_bits, number_option, size_given,
+    WordFault, nabo, nabsn, nsze, number_given, number_of_16_bits, number_of_64_bits,
+    number_option, size_given,
 };
 use clap::{Arg, ArgMatches, Command, Error};
 use nvm_record::BlockSize;
@@ -22,29 +23,31 @@ pub struct NamespaceWords {
 
 /// What the words say.
 pub fn read_namespace(alloc: Global, words: &ArgMatches<'_>) -> Result<NamespaceWords, WordFault> {
-    let (Some(size), Some(nsze), Some(nabsn), Some(nabo)) = (
-        size_given(alloc, words)?,
-        number_of_64_bits(alloc, words, "nsze")?,
-        number_of_16_bits(alloc, words, "nabsn")?,
-        number_of_16_bits(alloc, words, "nabo")?,
-    ) else {
-        return Err(WordFault::Missing);
-    };
-    let nawun = number_of_16_bits(alloc, words, "nawun")?;
-    let nacwu = number_of_16_bits(alloc, words, "nacwu")?;
+    let size = size_given(alloc, words)?;
+    let nsze = number_of_64_bits(alloc, words, "nsze")?;
+    let nabsn = number_of_16_bits(alloc, words, "nabsn")?;
     Ok(NamespaceWords {
         size,
         nsze,
         nabsn,
-        nabo,
-        nawun: nawun.unwrap_or(whole_unit(nabsn)),
-        nacwu: nacwu.unwrap_or(whole_unit(nabsn)),
+        nabo: number_of_16_bits(alloc, words, "nabo")?,
+        nawun: unit_given(alloc, words, "nawun", nabsn)?,
+        nacwu: unit_given(alloc, words, "nacwu", nabsn)?,
     })
 }
 
-/// The zeroes-based number of blocks of a whole unit. Without boundaries it is the highest number.
-fn whole_unit(nabsn: u16) -> u16 {
-    if nabsn == 0 { u16::MAX } else { nabsn }
+/// The zeroes-based number of blocks that an option has, or else that of a whole unit. Without boundaries that is the highest number.
+fn unit_given(
+    alloc: Global,
+    words: &ArgMatches<'_>,
+    option: &'static str,
+    nabsn: u16,
+) -> Result<u16, WordFault> {
+    match number_given(alloc, words, option, 0, 65_535)? {
+        Some(value) => Ok(value as u16),
+        None if nabsn == 0 => Ok(u16::MAX),
+        None => Ok(nabsn),
+    }
 }
 
 /// A command with the options that say what the namespace is like. The namespace has `blocks` blocks where no number is given.

@@ -14,7 +14,7 @@ mod words;
 
 use crate::failure::Failure;
 use crate::fault::Fault;
-use crate::front::{FileFault, Output, Progress, UNWRITTEN, WordFault, failed, tell, words_given};
+use crate::front::{FileFault, Output, Progress, UNWRITTEN, failed, tell};
 use crate::nvmu::answer::Answer;
 use crate::nvmu::auditing::{audited, witnessed};
 use crate::nvmu::refuting::refuted;
@@ -35,7 +35,7 @@ pub fn nvmu_status<R: AllocGlobal + Env + Files + Input + Print + Eprint + Threa
     rt: &R,
     progress: &Progress<'_, R>,
 ) -> u8 {
-    match asked(rt) {
+    match read_words(rt) {
         Ok(asked) => match Output::standard(rt) {
             Ok(output) => done(rt, &asked, output, progress),
             Err(_) => failed(rt, NVMU, Fault::NoMemory),
@@ -45,12 +45,6 @@ pub fn nvmu_status<R: AllocGlobal + Env + Files + Input + Print + Eprint + Threa
             Err(_) => failed(rt, NVMU, UNWRITTEN),
         },
     }
-}
-
-/// What the words after the program's name ask for.
-fn asked<R: AllocGlobal + Env>(rt: &R) -> Result<Asked, WordFault> {
-    let words = words_given(rt)?;
-    read_words(rt.alloc(), words.as_slice())
 }
 
 /// Does what is asked, writes the answer to standard output, and gives the exit status.

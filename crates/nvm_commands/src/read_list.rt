@@ -4,10 +4,11 @@ ghost use Rattle.nvm_listing.specs.Expectations as spec;
 ghost use Rattle.nvm_commands.specs.Expecting.{IsExpectationFault, IsExpectingFault};
 ghost use Rattle.nvm_commands.specs.Files.{IsReadingFault};
 
-use crate::failure::{Failure, of_list};
+use crate::failure::Failure;
 use crate::fault::Fault;
 use crate::files::bytes_of;
 use crate::front::{InputKind, Progress};
+use crate::list_failure::wrong_line;
 use nvm_listing::{ExpectationFault, expectations, without_expectations};
 use nvm_record::Status;
 use std::alloc::{AllocError, Global};
@@ -39,11 +40,7 @@ pub fn read_lists<'a, R: AllocGlobal + Files + Input + Eprint>(
         let path = path.as_str();
         let bytes = bytes_of(rt, InputKind::Text, path, progress)?;
         let split = split_list(rt.alloc(), path, &bytes)?;
-        lists.push(ReadList {
-            path,
-            text: split.commands,
-            expectations: split.expectations,
-        })?;
+        lists.push(split)?;
     }
     Ok(lists)
 }
@@ -57,37 +54,27 @@ pub fn texts_of<'a>(alloc: Global, lists: &'a [ReadList<'_>]) -> Result<Vec<&'a 
     Ok(texts)
 }
 
-/// A list without its expectations, and these.
-#[derive(Drop)]
-pub struct SplitList {
-    pub commands: Vec<u8>,
-    /// What each command expects, in their order.
-    pub expectations: Vec<Option<Status>>,
-}
-
 /// The list that was read from a path, without its expectations, and these. The first wrong one is the fault, and what helps is
 /// said of it.
-pub fn split_list(alloc: Global, path: &str, list: &[u8]) -> Result<SplitList, Failure>
-    ensures commands { IfOk result (λ split. split.commands.items ≡ spec.without_expectations list.now) }
-    ensures expectations { IfOk result (λ split. spec.expectations list.now ≡ Ok split.expectations.items) }
+pub fn split_list<'a>(alloc: Global, path: &'a str, list: &[u8]) -> Result<ReadList<'a>, Failure>
+    ensures path { IfOk result (λ read. read.path.now ≡ path.now) }
+    ensures text { IfOk result (λ read. read.text.items ≡ spec.without_expectations list.now) }
+    ensures expectations { IfOk result (λ read. spec.expectations list.now ≡ Ok read.expectations.items) }
     ensures fault { IfErr result (λ failure. IsExpectationFault path.now list.now failure.fault) }
 {
     match expectations(alloc, list) {
-        Ok(expectations) => {
-            let commands = without_expectations(alloc, list)?;
-            Ok(SplitList {
-                commands,
-                expectations,
-            })
-        }
+        Ok(expectations) => Ok(ReadList {
+            path,
+            text: without_expectations(alloc, list)?,
+            expectations,
+        }),
         Err(ExpectationFault::Line { line, expected }) => {
-            let named = String::from_str(alloc, path)?;
             let fault = Fault::Expectation {
-                path: named,
+                path: String::from_str(alloc, path)?,
                 line,
                 expected,
             };
-            Err(of_list(alloc, fault, path, list))
+            Err(Failure::hinted(fault, wrong_line(alloc, path, list, line)))
         }
         Err(ExpectationFault::NoMemory) => Err(Failure::from(AllocError)),
     }

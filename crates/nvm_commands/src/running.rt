@@ -11,10 +11,9 @@ ghost use Rattle.nvm_commands.specs.RunFaults.{IsSettingsOf};
 use crate::checked::{Checked, checked_of, status_of};
 use crate::failure::{Failure, of_run};
 use crate::fault::Fault;
-use crate::files::{keep, unmade};
+use crate::files::{keep, made};
 use crate::front::{FileFault, Output, Progress, STANDARD, Telling};
 use crate::host_files::files_of;
-use crate::namespace_words::NamespaceWords;
 use crate::read_list::{read_lists, texts_of};
 use crate::run_paths::{check_record, names_fit};
 use crate::running_words::RunWords;
@@ -59,14 +58,11 @@ pub fn run_lists<R: AllocGlobal + Files + Input + Print + Eprint + Threads + Wai
         keep(rt, path.as_str(), told.shown.record(), progress)?;
     }
     progress.clear();
-    match print(output, &told, &mut texts, &checked) {
-        Ok(()) => {
-            tell_if_idle(rt, &told.shown, &checked);
-            forget(told);
-            Ok(status_of(&checked))
-        }
-        Err(fault) => Err(unmade(rt.alloc(), STANDARD, fault)),
-    }
+    let written = print(output, &told, &mut texts, &checked);
+    made(rt.alloc(), STANDARD, written)?;
+    tell_if_idle(rt, &told.shown, &checked);
+    forget(told);
+    Ok(status_of(&checked))
 }
 
 /// Says so on standard error where there was no job, and so no command in any list, or else no expectation to check. It is no fault.
@@ -96,25 +92,18 @@ fn standard<R: AllocGlobal + Files + Print + Eprint>(rt: &R) -> Result<Output<'_
 fn settings_of<R: Threads>(rt: &R, words: &RunWords) -> Settings
     ensures { IsSettingsOf words.now result }
 {
-    let NamespaceWords {
-        size,
-        nsze,
-        nabsn,
-        nabo,
-        nawun,
-        nacwu,
-    } = words.namespace;
+    let it = &words.namespace;
     let workers = match words.workers {
         Some(workers) => workers,
         None => processors(rt),
     };
     Settings {
-        nsze,
-        block: size.bytes(),
-        nabsn,
-        nabo,
-        nawun,
-        nacwu,
+        nsze: it.nsze,
+        block: it.size.bytes(),
+        nabsn: it.nabsn,
+        nabo: it.nabo,
+        nawun: it.nawun,
+        nacwu: it.nacwu,
         workers,
         limit: words.limit,
     }
@@ -161,28 +150,10 @@ fn shown_of<R: AllocGlobal + Eprint + Threads + Wait + Sync>(
     ensures fault { IfErr result (λ failure. (first : FaultOfRun) × IsFirstRunFault settings.now files.now first
         × (failure.fault ≡ fault_of_run first)) }
 {
-    match done(rt, settings, files, progress) {
-        Ok(shown) => Ok(shown),
-        Err(fault) => Err(of_run(rt.alloc(), fault, files.len())),
-    }
-}
-
-/// Does the commands of the host files of lists.
-fn done<R: AllocGlobal + Eprint + Threads + Wait + Sync>(
-    rt: &R,
-    settings: &Settings,
-    files: &[Payload],
-    progress: &Progress<'_, R>,
-) -> Result<Shown, Fault>
-    requires { (texts : List (List ℕ)) × AreFilesOf settings.now.block texts files.now }
-    ensures shown { IfOk result (IsShown settings.now files.now) }
-    ensures fault { IfErr result (λ fault. (first : FaultOfRun) × IsFirstRunFault settings.now files.now first
-        × (fault ≡ fault_of_run first)) }
-{
     let gate = progress.jobs();
     match execute_watched(rt, rt.alloc(), settings, files, &gate, progress) {
         Ok(shown) => Ok(shown),
-        Err(fault) => Err(told(fault)),
+        Err(fault) => Err(of_run(rt.alloc(), told(fault), files.len())),
     }
 }
 

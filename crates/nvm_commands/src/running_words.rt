@@ -2,8 +2,8 @@
 ghost use Rattle.std.specs.Prelude.{◌≤◌, IfOk, length};
 
 use crate::front::{
-    Telling, WordFault, file_arguments, flag, limit, limit_given, number_option, owned, path_given,
-    path_option, telling_of, workers_given,
+    Telling, WordFault, file_arguments, flag, limit, limit_given, number_option, path_given,
+    path_option, paths_named, telling_of, workers_given,
 };
 use crate::namespace_words::{NamespaceWords, read_namespace, with_namespace};
 use clap::{ArgMatches, Command, Error};
@@ -33,12 +33,7 @@ pub fn read_run(alloc: Global, words: &ArgMatches<'_>) -> Result<RunWords, WordF
     ensures { IfOk result (λ run. 1 ≤ length run.lists.items) }
 {
     let namespace = read_namespace(alloc, words)?;
-    let (Some(limit), Some(paths)) = (limit_given(alloc, words)?, words.get_strs("list")) else {
-        return Err(WordFault::Missing);
-    };
-    if paths.is_empty() {
-        return Err(WordFault::Missing);
-    }
+    let limit = limit_given(alloc, words)?.ok_or(WordFault::Missing)?;
     Ok(RunWords {
         namespace,
         workers: workers_given(alloc, words)?,
@@ -46,7 +41,7 @@ pub fn read_run(alloc: Global, words: &ArgMatches<'_>) -> Result<RunWords, WordF
         record: path_given(alloc, words, "record")?,
         check: words.get_flag("check"),
         telling: telling_of(words),
-        lists: owned(alloc, paths)?,
+        lists: paths_named(alloc, words, "list")?,
     })
 }
 

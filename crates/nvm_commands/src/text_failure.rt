@@ -1,7 +1,7 @@
 //! What helps where lines of a trace's text are wrong.
-use crate::failure::shown_line;
+use crate::failure::line_of;
 use crate::front::STANDARD;
-use crate::hint::no_trace_text;
+use crate::hint::{Wanted, instead};
 use crate::list_failure::{TOLD, joined};
 use nvm_trace_text::{TextFault, TraceExpected, trace_of_text};
 use std::alloc::{AllocError, Global};
@@ -18,31 +18,20 @@ pub fn wrong_text(
     line: u64,
     expected: TraceExpected,
 ) -> Result<Option<String>, AllocError> {
-    if let Some(told) = no_trace_text(alloc, path, text)? {
+    if let Some(told) = instead(alloc, path, text, Wanted::TraceText)? {
         return Ok(Some(told));
     }
     let mut lines = Vec::new(alloc);
-    if let Some(shown) = shown_line(text, line) {
-        lines.push(line_told(alloc, path, shown)?)?;
+    let named = if path == STANDARD { None } else { Some(path) };
+    if let Some(told) = line_of(alloc, named, text, line)? {
+        lines.push(told)?;
     }
-    if text.len() <= LONGEST && !is_of_head(expected) {
+    // Without its head no other line can be read.
+    let is_head = matches!(expected, TraceExpected::Head | TraceExpected::Geometry(_));
+    if text.len() <= LONGEST && !is_head {
         push_others(alloc, &mut lines, text, line)?;
     }
     joined(alloc, &lines)
-}
-
-/// The line of a text that was read from a path.
-fn line_told(alloc: Global, path: &str, shown: &str) -> Result<String, AllocError> {
-    if path == STANDARD {
-        format!(in alloc; "the line is: {shown}")
-    } else {
-        format!(in alloc; "the line of {path} is: {shown}")
-    }
-}
-
-/// Whether it is the head that is wrong, without which no other line can be read.
-fn is_of_head(expected: TraceExpected) -> bool {
-    matches!(expected, TraceExpected::Head | TraceExpected::Geometry(_))
 }
 
 /// Appends what was expected in each wrong line after the first one, or that there are more.

@@ -1,20 +1,20 @@
+//! The words of `nvq`.
 ghost use Rattle.std.specs.Prelude.{IfOk};
 ghost use Rattle.nvm_commands.specs.Words.{IsAsked};
 
 use crate::certifying_words::{CertifyWords, certify_command, read_certify};
-use crate::conversion_words::{
-    assemble_asked, assemble_command, list_asked, list_command, trace_asked, trace_command,
-};
+use crate::conversion_words::{assemble_command, list_asked, list_command, trace_command};
 use crate::explaining_words::{ExplainWords, explain_command, read_explain};
 use crate::front::{
-    AuditWords, VERSION, WitnessWords, WordFault, audit_command, flag, read_audit, read_witness,
-    witness_command,
+    AuditWords, VERSION, WitnessWords, WordFault, audit_command, flag, path_named, read_audit,
+    read_witness, size_given, witness_command, words_given,
 };
 use crate::generating_words::{GenerateWords, generate_command, read_generate};
 use crate::running_words::{RunWords, read_run, run_command};
 use clap::{ArgMatches, Command, Error};
 use nvm_record::BlockSize;
 use std::alloc::Global;
+use std::rt::Env;
 
 /// What the words of the command line ask for.
 #[derive(Drop)]
@@ -54,12 +54,13 @@ pub enum Asked {
 }
 
 /// Reads the words after the program's name. A block has 512 bytes where no size is given, and a run and a load have one list or more.
-pub fn read_words(alloc: Global, words: &[String]) -> Result<Asked, WordFault>
+pub fn read_words<R: AllocGlobal + Env>(rt: &R) -> Result<Asked, WordFault>
     ensures { IfOk result IsAsked }
 {
-    let mut command = program(alloc)?;
-    let matches = command.try_get_matches_from_mut(words)?;
-    asked_of(alloc, &matches)
+    let words = words_given(rt)?;
+    let mut command = program(rt.alloc())?;
+    let matches = command.try_get_matches_from_mut(words.as_slice())?;
+    asked_of(rt.alloc(), &matches)
 }
 
 /// What the matches ask for.
@@ -67,28 +68,26 @@ fn asked_of(alloc: Global, matches: &ArgMatches<'_>) -> Result<Asked, WordFault>
     ensures { IfOk result IsAsked }
 {
     match matches.subcommand() {
-        Some(("assemble", words)) => assemble_asked(alloc, words),
-        Some(("trace", words)) => trace_asked(alloc, words),
+        Some(("assemble", words)) => Ok(Asked::Assemble {
+            size: size_given(alloc, words)?,
+            list: path_named(alloc, words, "list")?,
+            out: path_named(alloc, words, "out")?,
+        }),
+        Some(("trace", words)) => Ok(Asked::Trace {
+            text: path_named(alloc, words, "text")?,
+            out: path_named(alloc, words, "out")?,
+        }),
         Some(("list", words)) => list_asked(alloc, words),
         Some(("run", words)) => Ok(Asked::Run(read_run(alloc, words)?)),
         Some(("generate", words)) => Ok(Asked::Generate(read_generate(alloc, words)?)),
-        Some(("audit", words)) => audit_asked(alloc, words),
+        Some(("audit", words)) if words.get_flag("all") => {
+            Ok(Asked::AuditAll(read_audit(alloc, words)?))
+        }
+        Some(("audit", words)) => Ok(Asked::Audit(read_audit(alloc, words)?)),
         Some(("witness", words)) => Ok(Asked::Witness(read_witness(alloc, words)?)),
         Some(("certify", words)) => Ok(Asked::Certify(read_certify(alloc, words)?)),
         Some(("explain", words)) => Ok(Asked::Explain(read_explain(alloc, words)?)),
         _ => Err(WordFault::Missing),
-    }
-}
-
-/// What `nvq audit` is asked.
-fn audit_asked(alloc: Global, words: &ArgMatches<'_>) -> Result<Asked, WordFault>
-    ensures { IfOk result IsAsked }
-{
-    let audit = read_audit(alloc, words)?;
-    if words.get_flag("all") {
-        Ok(Asked::AuditAll(audit))
-    } else {
-        Ok(Asked::Audit(audit))
     }
 }
 

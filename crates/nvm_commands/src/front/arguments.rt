@@ -1,4 +1,6 @@
 //! The kinds of arguments that commands take beside numbers.
+ghost use Rattle.std.specs.Prelude.{◌≤◌, IfOk, length};
+
 use crate::front::words::WordFault;
 use clap::{Arg, ArgAction, ArgMatches};
 use std::alloc::{AllocError, Global};
@@ -40,6 +42,27 @@ pub fn path_named(alloc: Global, words: &ArgMatches<'_>, id: &str) -> Result<Str
         Some(path) => Ok(String::from_str(alloc, path)?),
         None => Err(WordFault::Missing),
     }
+}
+
+/// The paths of an argument that has to be given, at least one.
+pub fn paths_named(
+    alloc: Global,
+    words: &ArgMatches<'_>,
+    id: &str,
+) -> Result<Vec<String>, WordFault>
+    ensures { IfOk result (λ paths. 1 ≤ length paths.items) }
+{
+    let Some(texts) = words.get_strs(id) else {
+        return Err(WordFault::Missing);
+    };
+    if texts.is_empty() {
+        return Err(WordFault::Missing);
+    }
+    let mut strings = Vec::with_capacity(alloc, texts.len())?;
+    for text in texts {
+        strings.push(String::from_str(alloc, text)?)?;
+    }
+    Ok(strings)
 }
 
 /// The path that an argument names, or `None` where it isn't given.

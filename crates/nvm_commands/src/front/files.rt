@@ -1,3 +1,4 @@
+//! How files and standard streams are read and written, and which paths are of one file.
 ghost use Rattle.std.specs.Prelude.{◌≡◌};
 ghost use Rattle.nvm_commands.specs.Standard.{names_input};
 

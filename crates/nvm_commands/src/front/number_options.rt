@@ -1,9 +1,9 @@
 //! Options that take a number.
-ghost use Rattle.std.specs.Prelude.{◌≤◌, IfOk, IfSome, codes};
+ghost use Rattle.std.specs.Prelude.{◌≤◌, Some, IfOk, IfSome, codes};
 ghost use Rattle.clap.specs.Matches.{first_value, found_of};
 ghost use Rattle.nvm_commands.specs.Numbers.{IsGiven};
 
-use crate::front::number_word::{NumberFault, number};
+use crate::front::number_word::number;
 use crate::front::words::WordFault;
 use clap::{Arg, ArgMatches};
 use nvm_record::BlockSize;
@@ -55,64 +55,62 @@ pub fn number_given(
     };
     match number(word.as_bytes(), least, most) {
         Ok(value) => Ok(Some(value)),
-        Err(NumberFault::NoNumber) => Err(refused(alloc, option, word, Expected::Number)),
-        Err(NumberFault::OutOfRange) => {
-            Err(refused(alloc, option, word, Expected::Between(least, most)))
-        }
+        Err(expected) => Err(refused(alloc, option, word, expected)),
     }
 }
 
-/// The same of 16 bits.
+/// The number of 16 bits of an option that has to be given.
 pub fn number_of_16_bits(
     alloc: Global,
     words: &ArgMatches<'_>,
     option: &'static str,
-) -> Result<Option<u16>, WordFault>
-    ensures { IfOk result (IsGiven 0 65535 (first_value (found_of words.now) option.now)) }
+) -> Result<u16, WordFault>
+    ensures { IfOk result (λ n. IsGiven 0 65535 (first_value (found_of words.now) option.now) (Some n)) }
 {
     match number_given(alloc, words, option, 0, 65_535)? {
-        Some(value) => Ok(Some(value as u16)),
-        None => Ok(None),
+        Some(value) => Ok(value as u16),
+        None => Err(WordFault::Missing),
     }
 }
 
-/// The same of 32 bits.
+/// The number of 32 bits of an option that has to be given.
 pub fn number_of_32_bits(
     alloc: Global,
     words: &ArgMatches<'_>,
     option: &'static str,
-) -> Result<Option<u32>, WordFault>
-    ensures { IfOk result (IsGiven 0 4294967295 (first_value (found_of words.now) option.now)) }
+) -> Result<u32, WordFault>
+    ensures { IfOk result (λ n. IsGiven 0 4294967295 (first_value (found_of words.now) option.now) (Some n)) }
 {
     match number_given(alloc, words, option, 0, 4_294_967_295)? {
-        Some(value) => Ok(Some(value as u32)),
-        None => Ok(None),
+        Some(value) => Ok(value as u32),
+        None => Err(WordFault::Missing),
     }
 }
 
-/// The same of 64 bits.
+/// The number of 64 bits of an option that has to be given.
 pub fn number_of_64_bits(
     alloc: Global,
     words: &ArgMatches<'_>,
     option: &'static str,
-) -> Result<Option<u64>, WordFault>
-    ensures { IfOk result (IsGiven 0 18446744073709551615 (first_value (found_of words.now) option.now)) }
+) -> Result<u64, WordFault>
+    ensures { IfOk result (λ n. IsGiven 0 18446744073709551615 (first_value (found_of words.now) option.now) (Some n)) }
 {
-    number_given(alloc, words, option, 0, u64::MAX)
+    match number_given(alloc, words, option, 0, u64::MAX)? {
+        Some(value) => Ok(value),
+        None => Err(WordFault::Missing),
+    }
 }
 
-/// The size of a block that `--block` has, or `None` where it isn't given.
-pub fn size_given(alloc: Global, words: &ArgMatches<'_>) -> Result<Option<BlockSize>, WordFault>
-    ensures { IfOk result (IsGiven 0 4294967295 (first_value (found_of words.now) (codes "block"))) }
+/// The size of a block that `--block` has.
+pub fn size_given(alloc: Global, words: &ArgMatches<'_>) -> Result<BlockSize, WordFault>
+    ensures { IfOk result (λ size. IsGiven 0 4294967295 (first_value (found_of words.now) (codes "block")) (Some size)) }
 {
     let Some(word) = words.get_str("block") else {
-        return Ok(None);
+        return Err(WordFault::Missing);
     };
-    let Some(bytes) = number_of_32_bits(alloc, words, "block")? else {
-        return Ok(None);
-    };
+    let bytes = number_of_32_bits(alloc, words, "block")?;
     match BlockSize::new(bytes) {
-        Some(size) => Ok(Some(size)),
+        Some(size) => Ok(size),
         None => Err(refused(alloc, "block", word, Expected::Size)),
     }
 }

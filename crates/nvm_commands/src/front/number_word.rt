@@ -3,28 +3,21 @@
 ghost use Rattle.std.specs.Prelude.{◌≡◌, ◌≤◌, ◌+◌, ◌*◌, IfOk};
 ghost use Rattle.nvm_commands.specs.Numbers as spec;
 
-/// Why a word gives no number.
-#[derive(Clone, Copy, Debug, PartialEq, Eq)]
-pub enum NumberFault {
-    /// It is none.
-    NoNumber,
-    /// It is one that isn't taken.
-    OutOfRange,
-}
+use crate::front::number_options::Expected;
 
 /// The number that a word says, where it is one from `least` to `most`. A `+` may come before it.
-pub fn number(word: &[u8], least: u64, most: u64) -> Result<u64, NumberFault>
+pub fn number(word: &[u8], least: u64, most: u64) -> Result<u64, Expected>
     ensures value { result ≡ spec.number least most word.now }
     ensures range { IfOk result (λ value. (least ≤ value) × (value ≤ most)) }
 {
     let digits = digits_of(word);
     let radix = radix_of(word);
     if !is_numeral(radix, digits) {
-        return Err(NumberFault::NoNumber);
+        return Err(Expected::Number);
     }
     match whole(radix, digits, unit_of(word)) {
         Some(value) if least <= value && value <= most => Ok(value),
-        _ => Err(NumberFault::OutOfRange),
+        _ => Err(Expected::Between(least, most)),
     }
 }
 

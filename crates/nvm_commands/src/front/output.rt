@@ -1,3 +1,4 @@
+//! Files that appear whole or not at all, and standard output.
 use crate::front::files::{FileFault, STANDARD};
 use crate::front::progress::Progress;
 use crate::front::unfinished::Unfinished;

@@ -1,3 +1,4 @@
+//! How far long work is, on standard error.
 use nvm_audit::Watcher;
 use nvm_unit::Gate;
 use std::sync::atomic::{AtomicBool, AtomicU32, Ordering};

@@ -1,9 +1,8 @@
-ghost use Rattle.std.specs.Prelude.{◌≡◌, IfOk, length};
-
+//! The faults of a command line's words.
 use crate::front::number_options::Expected;
 use clap::Error;
 use clap::error::ErrorKind;
-use std::alloc::{AllocError, AllocFailed, Global};
+use std::alloc::{AllocError, AllocFailed};
 use std::rt::Env;
 use std::{env, io};
 
@@ -65,17 +64,6 @@ pub fn words_given<R: AllocGlobal + Env>(rt: &R) -> Result<Vec<String>, WordFaul
     Ok(words)
 }
 
-/// The texts as strings of their own, in their order.
-pub fn owned(alloc: Global, texts: &[&str]) -> Result<Vec<String>, AllocError>
-    ensures { IfOk result (λ strings. length strings.items ≡ length texts.now) }
-{
-    let mut strings = Vec::with_capacity(alloc, texts.len())?;
-    for text in texts {
-        strings.push(String::from_str(alloc, text)?)?;
-    }
-    Ok(strings)
-}
-
 /// The fault where standard output couldn't be written.
 pub const UNWRITTEN: &str = "cannot write standard output";
 
@@ -91,9 +79,9 @@ pub fn tell<R: AllocGlobal + Print + Eprint>(
         WordFault::Words(error) => {
             let is_fault = error.use_stderr();
             match error.print(rt) {
-                Ok(()) => Ok(u8::from(is_fault)),
-                Err(_) if is_fault => Ok(1),
-                Err(error) => Err(error.kind()),
+                Ok(()) => return Ok(u8::from(is_fault)),
+                Err(_) if is_fault => {}
+                Err(error) => return Err(error.kind()),
             }
         }
         WordFault::Value {
@@ -104,19 +92,16 @@ pub fn tell<R: AllocGlobal + Print + Eprint>(
             let _ = eprintln!(rt;
                 "error: invalid value '{word}' for '--{option}': {expected}\n\nFor more information, try '--help'."
             );
-            Ok(1)
         }
         WordFault::Missing => {
             let _ = rt.eprintln("error: a value is missing\n\nFor more information, try '--help'.");
-            Ok(1)
         }
         WordFault::NotText => {
             let _ = rt.eprintln("error: invalid UTF-8 was detected in one or more arguments");
-            Ok(1)
         }
         WordFault::NoMemory => {
             let _ = eprintln!(rt; "{program}: no memory");
-            Ok(1)
         }
     }
+    Ok(1)
 }

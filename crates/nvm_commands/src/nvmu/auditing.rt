@@ -3,7 +3,6 @@ ghost use Rattle.std.specs.Prelude.{IfOk, IfErr};
 ghost use Rattle.nvm_engine.specs.Judged.{IsJudged};
 ghost use Rattle.nvm_commands.specs.Nvmu.Judged.{IsAuditFault, IsJudgedFile, IsJudgeFaultOn, IsWitnessFault, IsWitnessFaultOn};
 ghost use Rattle.nvm_commands.specs.Nvmu.Answer.{AreWitnessedFiles, IsWitnessedBy};
-ghost use Rattle.nvm_trace.specs.declared.judging.Judging.TheVariants.{Standard};
 
 use crate::failure::{Failure, plain};
 use crate::fault::Fault;
@@ -15,7 +14,6 @@ use nvm_engine::{Judged, audit_bytes_watched, witness_bytes};
 use nvm_evidence::{is_evidence, witness_order_bytes};
 use nvm_record::Payload;
 use nvm_trace::Judging;
-use std::alloc::Global;
 use std::mem::forget;
 use std::rt::Files;
 use std::thread::Threads;
@@ -77,38 +75,19 @@ fn witnessed_of<R: AllocGlobal + Threads + Sync>(
     ensures fault { IfErr result (λ failure. IsWitnessFault seen.now held.now failure.fault) }
 {
     match judging {
-        Judging::Standard if is_evidence(held.as_slice()) => by_order(rt.alloc(), seen, held),
-        _ => by_record(rt, judging, seen, held),
-    }
-}
-
-/// Judges the bytes of a trace by those of an order.
-fn by_order(alloc: Global, seen: &Payload, held: &Payload) -> Result<Answer, Failure>
-    ensures witnessed { IfOk result (IsWitnessedBy Standard seen.now held.now) }
-    ensures fault { IfErr result (λ failure. IsWitnessFault seen.now held.now failure.fault) }
-{
-    match witness_order_bytes(alloc, seen, held.as_slice()) {
-        Ok(ordered) => Ok(Answer::Ordered(ordered)),
-        Err(fault) => Err(plain(Fault::Order(fault))),
-    }
-}
-
-/// Judges the bytes of a trace by those of a record.
-fn by_record<R: AllocGlobal + Threads + Sync>(
-    rt: &R,
-    judging: Judging,
-    seen: &Payload,
-    held: &Payload,
-) -> Result<Answer, Failure>
-    ensures witnessed { IfOk result (IsWitnessedBy judging seen.now held.now) }
-    ensures fault { IfErr result (λ failure. IsWitnessFault seen.now held.now failure.fault) }
-{
-    match witness_bytes(rt, rt.alloc(), judging, seen, held) {
-        Ok((witnessed, traced, run)) => {
-            forget(traced);
-            forget(run);
-            Ok(Answer::Witnessed(witnessed))
+        Judging::Standard if is_evidence(held.as_slice()) => {
+            match witness_order_bytes(rt.alloc(), seen, held.as_slice()) {
+                Ok(ordered) => Ok(Answer::Ordered(ordered)),
+                Err(fault) => Err(plain(Fault::Order(fault))),
+            }
         }
-        Err(fault) => Err(plain(Fault::Engine(fault))),
+        _ => match witness_bytes(rt, rt.alloc(), judging, seen, held) {
+            Ok((witnessed, traced, run)) => {
+                forget(traced);
+                forget(run);
+                Ok(Answer::Witnessed(witnessed))
+            }
+            Err(fault) => Err(plain(Fault::Engine(fault))),
+        },
     }
 }

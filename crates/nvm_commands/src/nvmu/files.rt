@@ -1,3 +1,4 @@
+//! The files that `nvmu` reads, and the path of its record.
 ghost use Rattle.std.specs.Prelude.{◌≡◌, IfOk, IfErr, length, map, string_bytes};
 ghost use Rattle.nvm_commands.specs.Files.{IsReadingFault, IsWriteFault};
 ghost use Rattle.nvm_commands.specs.Nvmu.Judged.{IsPairFault};

@@ -1,15 +1,17 @@
+//! The words of `nvmu`.
 ghost use Rattle.std.specs.Prelude.{IfOk};
 ghost use Rattle.nvm_commands.specs.Nvmu.Words.{IsAsked};
 
 use crate::front::{
     AuditWords, VERSION, WitnessWords, WordFault, audit_command, file_argument, file_arguments,
     limit, limit_given, nabo, nabsn, nsze, number_of_16_bits, number_of_32_bits, number_of_64_bits,
-    number_option, owned, path_named, path_option, read_audit, read_witness, trace,
-    witness_command, workers_given,
+    number_option, path_named, path_option, paths_named, read_audit, read_witness, trace,
+    witness_command, words_given, workers_given,
 };
 use clap::{Arg, ArgMatches, Command, Error};
 use nvm_engine::Settings;
 use std::alloc::Global;
+use std::rt::Env;
 
 /// What the words of the command line ask for.
 #[derive(Drop)]
@@ -37,12 +39,13 @@ pub enum Asked {
 ///
 /// Every option of `run` is given once. `--workers` takes 1 to 64, `--limit` 1 to 4,194,304, and one host file or more is named.
 /// `audit` names one record, `witness` a trace and a record, and `refute` a trace and a contradiction.
-pub fn read_words(alloc: Global, words: &[String]) -> Result<Asked, WordFault>
+pub fn read_words<R: AllocGlobal + Env>(rt: &R) -> Result<Asked, WordFault>
     ensures { IfOk result IsAsked }
 {
-    let mut command = program(alloc)?;
-    let matches = command.try_get_matches_from_mut(words)?;
-    asked_of(alloc, &matches)
+    let words = words_given(rt)?;
+    let mut command = program(rt.alloc())?;
+    let matches = command.try_get_matches_from_mut(words.as_slice())?;
+    asked_of(rt.alloc(), &matches)
 }
 
 /// What the matches ask for.
@@ -50,65 +53,32 @@ fn asked_of(alloc: Global, matches: &ArgMatches<'_>) -> Result<Asked, WordFault>
     ensures { IfOk result IsAsked }
 {
     match matches.subcommand() {
-        Some(("run", run)) => run_asked(alloc, run),
+        Some(("run", words)) => Ok(Asked::Run {
+            settings: settings_of(alloc, words)?,
+            out: path_named(alloc, words, "out")?,
+            files: paths_named(alloc, words, "file")?,
+        }),
         Some(("audit", words)) => Ok(Asked::Audit(read_audit(alloc, words)?)),
         Some(("witness", words)) => Ok(Asked::Witness(read_witness(alloc, words)?)),
-        Some(("refute", words)) => refute_asked(alloc, words),
+        Some(("refute", words)) => Ok(Asked::Refute {
+            trace: path_named(alloc, words, "trace")?,
+            contradiction: path_named(alloc, words, "contradiction")?,
+        }),
         _ => Err(WordFault::Missing),
     }
 }
 
-/// What `nvmu run` is asked.
-fn run_asked(alloc: Global, run: &ArgMatches<'_>) -> Result<Asked, WordFault>
-    ensures { IfOk result IsAsked }
-{
-    let (Some(out), Some(paths)) = (run.get_str("out"), run.get_strs("file")) else {
-        return Err(WordFault::Missing);
-    };
-    if paths.is_empty() {
-        return Err(WordFault::Missing);
-    }
-    Ok(Asked::Run {
-        settings: settings_of(alloc, run)?,
-        out: String::from_str(alloc, out)?,
-        files: owned(alloc, paths)?,
-    })
-}
-
-/// What `nvmu refute` is asked.
-fn refute_asked(alloc: Global, refute: &ArgMatches<'_>) -> Result<Asked, WordFault>
-    ensures { IfOk result IsAsked }
-{
-    Ok(Asked::Refute {
-        trace: path_named(alloc, refute, "trace")?,
-        contradiction: path_named(alloc, refute, "contradiction")?,
-    })
-}
-
 /// The options that are numbers.
 fn settings_of(alloc: Global, run: &ArgMatches<'_>) -> Result<Settings, WordFault> {
-    let (Some(nsze), Some(block), Some(nabsn), Some(nabo), Some(nawun), Some(nacwu)) = (
-        number_of_64_bits(alloc, run, "nsze")?,
-        number_of_32_bits(alloc, run, "block")?,
-        number_of_16_bits(alloc, run, "nabsn")?,
-        number_of_16_bits(alloc, run, "nabo")?,
-        number_of_16_bits(alloc, run, "nawun")?,
-        number_of_16_bits(alloc, run, "nacwu")?,
-    ) else {
-        return Err(WordFault::Missing);
-    };
-    let (Some(workers), Some(limit)) = (workers_given(alloc, run)?, limit_given(alloc, run)?) else {
-        return Err(WordFault::Missing);
-    };
     Ok(Settings {
-        nsze,
-        block,
-        nabsn,
-        nabo,
-        nawun,
-        nacwu,
-        workers,
-        limit,
+        nsze: number_of_64_bits(alloc, run, "nsze")?,
+        block: number_of_32_bits(alloc, run, "block")?,
+        nabsn: number_of_16_bits(alloc, run, "nabsn")?,
+        nabo: number_of_16_bits(alloc, run, "nabo")?,
+        nawun: number_of_16_bits(alloc, run, "nawun")?,
+        nacwu: number_of_16_bits(alloc, run, "nacwu")?,
+        workers: workers_given(alloc, run)?.ok_or(WordFault::Missing)?,
+        limit: limit_given(alloc, run)?.ok_or(WordFault::Missing)?,
     })
 }
 

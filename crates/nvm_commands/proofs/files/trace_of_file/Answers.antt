@@ -7,5 +7,5 @@ pub returns-in-Err-clause-fault : goal.returns-in-Err-clause-fault
 returns-in-Err-clause-fault c =
     let named = c.in_ok-named.named in
     let file = c.args.file.now in
-    let is = subst (λ (fault : Fault). IsFaultOfTrace named file fault) (sym c.of_trace.ensures) c.in-Err.ensures.fault in
+    let is = subst (λ (fault : Fault). IsFaultOfTrace named file fault) (sym c.of_file.ensures) c.in-Err.ensures.fault in
     inr (named, c.in_ok-named.ensures.ok, is)

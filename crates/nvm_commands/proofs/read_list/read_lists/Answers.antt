@@ -31,9 +31,9 @@ loop-path-preserved g c =
     let all : List (List ℕ) = map (λ path. string_bytes path) paths in
     let k = c.loop-path.path-index in
     let it = c.path-item.result in
-    let now : List ℕ = c.as_str-path.result.now in
+    let now : List ℕ = c.in_ok-split.split.path.now in
     ap (map (λ list. list.path.now)) c.in_ok-push.ensures.items
     ∙ map-append (λ list. list.path.now) c.loop-path.lists.items _
     ∙ ap (λ (some : List (List ℕ)). some ++ now ∷ []) c.loop-path.invariant
-    ∙ ap (λ (bytes : List ℕ). take k all ++ bytes ∷ []) c.as_str-path.ensures.value
+    ∙ ap (λ (bytes : List ℕ). take k all ++ bytes ∷ []) (c.in_ok-split.ensures.path ∙ c.as_str-path.ensures.value)
     ∙ sym (paths_more paths k it c.loop-path-test.true (sym c.path-item.is))

@@ -5,7 +5,7 @@ use Rattle.nvm_commands.specs.Explained.{IsUntold}
 use Rattle.nvm_commands.specs.Fault.{IsFaultOfRecordAt}
 use Rattle.nvm_commands.specs.Files.{IsReadFault}
 use Rattle.nvm_commands.specs.declared.explaining_words.ExplainWords.{ExplainWords}
-use Rattle.nvm_commands.proofs.explaining.told.Goals as goal
+use Rattle.nvm_commands.proofs.explaining.explained.Goals as goal
 
 pub returns-in-Record : goal.returns-in-Record
 returns-in-Record g c =
