@@ -1,3 +1,4 @@
+//! What points found and put, as numbers in place of bytes.
 use crate::numbers::{MARK, Values, ZERO, block_at};
 use nvm_record::NoMemory;
 use nvm_standard::{Found, Points, Put};

@@ -1,3 +1,4 @@
+//! Lists of numbers that have one for every place.
 ghost use Rattle.std.specs.Prelude.{◌≡◌, min};
 
 use nvm_record::NoMemory;

@@ -1,3 +1,4 @@
+//! What blocks hold, as numbers.
 use crate::numbers::by_place::{Numbers, to_u32};
 use crate::numbers::hash::hash_of;
 use nvm_record::{BlockSize, NoMemory};

@@ -2,7 +2,8 @@
 use crate::order::acts::NONE;
 use crate::order::board::Board;
 use crate::order::derivation::Derivation;
-use crate::order::making::{Known, Part};
+use crate::order::known::Known;
+use crate::order::making::Part;
 use crate::order::search::Search;
 use nvm_record::NoMemory;
 
