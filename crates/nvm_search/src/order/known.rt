@@ -1,13 +1,10 @@
 //! What is known of all points before any part is searched, and what is noted of them since.
-use crate::numbers::{Numbers, Values, block_at, to_u32};
+use crate::numbers::{Numbers, ONES, Values, block_at, to_u32};
 use crate::order::acts::NONE;
 use crate::order::together::done_together;
 use nvm_record::NoMemory;
 use nvm_standard::{Point, Points};
 use std::alloc::Global;
-
-/// The bytes of a block of FFh.
-const ONES: &[u8] = &[0xff; 4096];
 
 /// What is known of all points.
 #[derive(Drop)]
