@@ -12,7 +12,7 @@ pub fn to_u32(number: usize) -> u32
 }
 
 /// Numbers by place. Where there is no such place a number is 0, and none is put.
-#[derive(Debug, Drop)]
+#[derive(Drop)]
 pub struct Numbers {
     items: Vec<u32>,
 }

@@ -11,7 +11,7 @@ use nvm_record::NoMemory;
 use std::alloc::Global;
 
 /// An act in order.
-#[derive(Clone, Copy, Debug)]
+#[derive(Clone, Copy)]
 pub struct Step {
     pub act: u32,
     /// The slot that it gives, where it had a choice.
@@ -23,7 +23,7 @@ pub struct Step {
 }
 
 /// What is kept in a state. Steps are counted from 1.
-#[derive(Clone, Copy, Debug)]
+#[derive(Clone, Copy)]
 pub enum Field {
     /// The step that the act is, or 0.
     Step(u32),

@@ -16,7 +16,7 @@ use nvm_record::NoMemory;
 const START: u32 = u32::MAX;
 
 /// A cell that finds something of which it isn't known who put it.
-#[derive(Clone, Copy, Debug, PartialEq, Eq, PartialOrd, Ord)]
+#[derive(Clone, Copy, PartialEq, Eq, PartialOrd, Ord)]
 struct Open {
     block: u32,
     from: u32,

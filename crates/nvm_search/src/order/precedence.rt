@@ -11,7 +11,7 @@ use std::alloc::Global;
 const MOST_WORDS: u32 = 1 << 23;
 
 /// What the times of a node say.
-#[derive(Clone, Copy, Debug)]
+#[derive(Clone, Copy)]
 struct Row {
     until: u32,
     /// The first and the last word of what they leave open.

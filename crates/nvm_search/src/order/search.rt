@@ -18,7 +18,7 @@ use nvm_record::NoMemory;
 use std::alloc::Global;
 
 /// An act that can be next, and the slot that it gives where it has a choice.
-#[derive(Clone, Copy, Debug)]
+#[derive(Clone, Copy)]
 pub struct Move {
     pub act: u32,
     pub slot: u32,
@@ -32,7 +32,7 @@ impl Move {
 }
 
 /// An act that should be done soon. `apart`: even if blocks of its point have to be done later.
-#[derive(Clone, Copy, Debug)]
+#[derive(Clone, Copy)]
 pub struct Target {
     pub act: u32,
     pub slot: u32,
@@ -40,7 +40,7 @@ pub struct Target {
 }
 
 /// A moment at which one of several moves could be made.
-#[derive(Clone, Copy, Debug, Default)]
+#[derive(Clone, Copy, Default)]
 struct Turn {
     /// The way back to it.
     mark: u32,

@@ -11,7 +11,7 @@ use std::ops::Range;
 pub const UNKNOWN: u32 = u32::MAX;
 
 /// A content of a block.
-#[derive(Clone, Copy, Debug, PartialEq, Eq, PartialOrd, Ord)]
+#[derive(Clone, Copy, PartialEq, Eq, PartialOrd, Ord)]
 struct Slot {
     block: u32,
     value: u32,

@@ -15,7 +15,7 @@ const EACH_ACT: u64 = 8;
 const TRIES: u64 = 32;
 
 /// Why nothing was found for a part.
-#[derive(Clone, Copy, Debug)]
+#[derive(Clone, Copy)]
 pub enum Miss {
     /// The search got stuck at this point.
     Stuck(u32),
@@ -24,7 +24,7 @@ pub enum Miss {
 }
 
 /// How a part is searched.
-#[derive(Clone, Copy, Debug, PartialEq, Eq)]
+#[derive(Clone, Copy, PartialEq, Eq)]
 enum Way {
     /// By moves that look right.
     Plainly,
