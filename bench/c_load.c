@@ -3,7 +3,7 @@
  *     c_load COMMAND BLOCKS SIZE THREADS NUMBER [hot] [recorded]
  *     c_load answers SEED NUMBER
  *
- * COMMAND is write, read, compare or pair, each of BLOCKS blocks of SIZE bytes, NUMBER in all. Each thread has 512 blocks of its own in units of 8 blocks, or of BLOCKS where that is more; with `hot` all work in
+ * COMMAND is write, read, compare, pair, or cut for a pair whose data comes in two pieces, each of BLOCKS blocks of SIZE bytes, NUMBER in all. Each thread has 512 blocks of its own in units of 8 blocks, or of BLOCKS where that is more; with `hot` all work in
  * the first unit. With `recorded` the namespace is recorded. All blocks are written before anything is measured. Pairs and Compares hold. It prints the number of commands on standard output, and on standard error the nanoseconds by the wall's clock and of processor time. Compiled with
  * -DCOUNTED and linked with -Wl,--wrap=malloc,--wrap=realloc,--wrap=free it prints the calls of these three after that.
  *
@@ -50,14 +50,16 @@ struct share {
     uint64_t first;
     uint32_t places, blocks, size;
     unsigned long number, mallocs, reallocs, frees;
+    bool cut;
     int failed;
 };
 
-/* Does a command, and polls where it is pending. Gives whether it ended as `wanted`. */
-static int is_done(struct zk_port *port, const uint8_t *entries, size_t count, uint8_t *data, size_t length, uint16_t wanted)
+/* Does a command, and polls where it is pending. Gives whether it ended as `wanted`. With `cut` the data of a pair's two commands comes in two pieces. */
+static int is_done(struct zk_port *port, const uint8_t *entries, size_t count, uint8_t *data, size_t length, bool cut, uint16_t wanted)
 {
     uint8_t told[2 * ZK_COMPLETION_BYTES];
-    int code = zk_submit(port, entries, count * ZK_ENTRY_BYTES, data, length, told, count * ZK_COMPLETION_BYTES);
+    int code = cut ? zk_submit_pair(port, entries, 2 * ZK_ENTRY_BYTES, data, length / 2, data + length / 2, length / 2, told, sizeof told)
+                   : zk_submit(port, entries, count * ZK_ENTRY_BYTES, data, length, told, count * ZK_COMPLETION_BYTES);
     while (code == ZK_PENDING) {
         sched_yield();
         code = zk_poll(port, data, length, told, count * ZK_COMPLETION_BYTES);
@@ -88,7 +90,7 @@ static void *do_all(void *given)
             entry_of(entries + ZK_ENTRY_BYTES, WRITE, FUSED_SECOND, (uint16_t)(i + 1), at, share->blocks);
         } else
             entry_of(entries, share->opcode, 0, (uint16_t)i, at, share->blocks);
-        if (!is_done(share->port, entries, count, data + i % DATA * 2 * bytes, length, 0)) {
+        if (!is_done(share->port, entries, count, data + i % DATA * 2 * bytes, length, share->cut, 0)) {
             share->failed = 1;
             break;
         }
@@ -107,7 +109,7 @@ static int write_all(const struct share *share)
     int done = data != NULL;
     for (uint64_t place = 0; done && place < share->places; place++) {
         entry_of(entry, WRITE, 0, 0, share->first + place * share->blocks, share->blocks);
-        done = is_done(share->port, entry, 1, data, (size_t)share->blocks * share->size, 0);
+        done = is_done(share->port, entry, 1, data, (size_t)share->blocks * share->size, false, 0);
     }
     free(data);
     return done;
@@ -178,18 +180,18 @@ static int answers(unsigned long seed, unsigned long number)
 
 int main(int words, char **word)
 {
-    static const char *const names[] = { "pair", "write", "read", "compare" };
-    static const uint8_t opcodes[] = { 0, WRITE, READ, COMPARE };
+    static const char *const names[] = { "pair", "write", "read", "compare", "cut" };
+    static const uint8_t opcodes[] = { 0, WRITE, READ, COMPARE, 0 };
     struct zk_port ports[ZK_MOST_PORTS];
     struct share shares[ZK_MOST_PORTS];
     pthread_t ids[ZK_MOST_PORTS];
     int kind = 0;
     if (words == 4 && !strcmp(word[1], "answers"))
         return answers(strtoul(word[2], NULL, 10), strtoul(word[3], NULL, 10));
-    while (words > 1 && kind < 4 && strcmp(word[1], names[kind]))
+    while (words > 1 && kind < 5 && strcmp(word[1], names[kind]))
         kind++;
-    if (words < 6 || kind == 4)
-        return fprintf(stderr, "c_load write|read|compare|pair BLOCKS SIZE THREADS NUMBER [hot] [recorded], or c_load answers SEED NUMBER\n"), 2;
+    if (words < 6 || kind == 5)
+        return fprintf(stderr, "c_load write|read|compare|pair|cut BLOCKS SIZE THREADS NUMBER [hot] [recorded], or c_load answers SEED NUMBER\n"), 2;
     uint32_t blocks = (uint32_t)strtoul(word[2], NULL, 10), size = (uint32_t)strtoul(word[3], NULL, 10);
     unsigned long threads = strtoul(word[4], NULL, 10), number = strtoul(word[5], NULL, 10);
     bool hot = words > 6 && !strcmp(word[6], "hot"), recorded = !strcmp(word[words - 1], "recorded");
@@ -201,7 +203,7 @@ int main(int words, char **word)
     if (zk_open(ports, threads, &ns, recorded ? ZK_MOST_CHANGES : ZK_NO_LIMIT, false) != ZK_DONE)
         return 1;
     for (unsigned long t = 0; t < threads; t++)
-        shares[t] = (struct share){ .port = &ports[t], .opcode = opcodes[kind], .first = hot ? 0 : t * OWN, .places = hot ? unit / blocks : OWN / blocks, .blocks = blocks, .size = size, .number = number / threads };
+        shares[t] = (struct share){ .port = &ports[t], .opcode = opcodes[kind], .cut = kind == 4, .first = hot ? 0 : t * OWN, .places = hot ? unit / blocks : OWN / blocks, .blocks = blocks, .size = size, .number = number / threads };
     for (unsigned long t = 0; t < threads; t++)
         if (!write_all(&shares[t]))
             return 1;

@@ -6,4 +6,4 @@ mod hash;
 mod values;
 
 pub use by_place::{Numbers, to_u32};
-pub use values::{MARK, Values, ZERO, block_at};
+pub use values::{MARK, ONES, Values, ZERO, block_at};

@@ -6,6 +6,8 @@
 mod acts;
 mod board;
 mod derivation;
+mod found;
+mod known;
 mod lists;
 mod making;
 mod merging;

@@ -1,4 +1,7 @@
+//! What can't be by what was derived: finds that nobody can have put, and nodes that come before themselves.
 use crate::contradiction::derivation::Derivation;
+use crate::contradiction::settling::Whose;
+use crate::contradiction::window::WindowFind;
 use nvm_record::NoMemory;
 use nvm_standard::{Conclusion, Presence};
 
@@ -10,6 +13,20 @@ pub struct Absurd {
     pub finds: Vec<usize>,
     /// The node that would come before itself.
     pub circle: Option<usize>,
+}
+
+impl<'a> Derivation<'a> {
+    /// Whether nobody can have put what was found: that is settled, or something else was found between who put it and its reader.
+    fn is_nobody(&self, number: usize, find: &WindowFind) -> bool {
+        let before = self.orders.before.at(find.reader);
+        let since = match self.whose(number) {
+            Some(Whose::Nobody) => return true,
+            Some(Whose::Writer(source)) => self.orders.after.at(source),
+            Some(Whose::First) => before,
+            None => return false,
+        };
+        find.others.first_with(since, before) != None
+    }
 }
 
 /// The finds of a point that is done in one of its blocks, if nobody can have put any of them, and this is the first.

@@ -1,3 +1,4 @@
+//! The blocks in which a contradiction is looked for.
 use nvm_record::NoMemory;
 use nvm_standard::{Found, Point, Presence, Put};
 use std::alloc::Global;

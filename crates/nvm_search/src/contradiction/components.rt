@@ -1,3 +1,4 @@
+//! The nodes of a table, by components that have nothing to do with each other.
 use crate::contradiction::history::History;
 use crate::numbers::to_u32;
 use nvm_record::NoMemory;

@@ -1,10 +1,8 @@
-use crate::numbers::{MARK, Values, ZERO, block_at};
+//! What points found and put, as numbers in place of bytes.
+use crate::numbers::{MARK, ONES, Values, ZERO, block_at};
 use nvm_record::NoMemory;
 use nvm_standard::{Found, Points, Put};
 use std::alloc::Global;
-
-/// Bytes of FFh, as many as a block has at most.
-const ONES: &[u8] = &[0xff; 4096];
 
 /// The number of what isn't known: anything.
 pub const ANYTHING: u32 = u32::MAX;

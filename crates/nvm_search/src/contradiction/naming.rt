@@ -1,3 +1,4 @@
+//! Contradictions with the commands that they name, by which the shorter one is chosen.
 use crate::contradiction::history::History;
 use nvm_record::NoMemory;
 use nvm_standard::{Conclusion, Contradiction, Fact, Node};

@@ -1,3 +1,4 @@
+//! The shortest ways on which one node of a window is found to come before another.
 use crate::contradiction::derivation::Derivation;
 use nvm_record::NoMemory;
 use std::alloc::Global;

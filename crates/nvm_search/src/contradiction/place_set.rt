@@ -1,3 +1,4 @@
+//! Sets of places, kept as bits.
 use nvm_record::NoMemory;
 use std::alloc::Global;
 

@@ -98,3 +98,22 @@ pub fn who_put(
     }
     Ok(Some(settled))
 }
+
+impl<'a> Derivation<'a> {
+    /// Settles who put what was found, if that is known by now and wasn't before.
+    pub fn settle(&mut self, number: usize, find: &WindowFind) -> Result<bool, NoMemory> {
+        match self.whose(number) {
+            Some(Whose::First) if self.other_first(find).is_some() => {}
+            Some(_) => return Ok(false),
+            None => {}
+        }
+        let is_there = self.is_there(find.reader);
+        let Some(new) = who_put(self, find, is_there)? else {
+            return Ok(false);
+        };
+        if let Some(settled) = self.settled.get_mut(number) {
+            *settled = Some(new);
+        }
+        Ok(true)
+    }
+}

@@ -1,3 +1,4 @@
+//! A contradiction among nodes, without the commands that it doesn't need.
 use crate::contradiction::derivation::derive;
 use crate::contradiction::history::History;
 use crate::contradiction::naming::{Named, shorter};

@@ -1,3 +1,4 @@
+//! Some nodes of a table that are looked at together, with what they found and whose it may be.
 use crate::contradiction::contents::Sought;
 use crate::contradiction::history::History;
 use crate::contradiction::place_set::PlaceSet;

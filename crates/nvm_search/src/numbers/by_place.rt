@@ -1,3 +1,4 @@
+//! Lists of numbers that have one for every place.
 ghost use Rattle.std.specs.Prelude.{◌≡◌, min};
 
 use nvm_record::NoMemory;
@@ -11,7 +12,7 @@ pub fn to_u32(number: usize) -> u32
 }
 
 /// Numbers by place. Where there is no such place a number is 0, and none is put.
-#[derive(Debug, Drop)]
+#[derive(Drop)]
 pub struct Numbers {
     items: Vec<u32>,
 }

@@ -1,3 +1,5 @@
+//! A hash of bytes.
+
 /// An odd number whose bits are as if drawn at random.
 const FACTOR: u64 = 0x9e37_79b9_7f4a_7c15;
 

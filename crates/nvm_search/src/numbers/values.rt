@@ -1,3 +1,4 @@
+//! What blocks hold, as numbers.
 use crate::numbers::by_place::{Numbers, to_u32};
 use crate::numbers::hash::hash_of;
 use nvm_record::{BlockSize, NoMemory};
@@ -17,6 +18,8 @@ const FEW: usize = 16;
 
 /// The bytes of a block that no command is expected to put.
 const FRESH: &[u8] = &[0xa5; 4096];
+/// The bytes of a block of FFh.
+pub const ONES: &[u8] = &[0xff; 4096];
 
 /// The block at this place of the data, as far as there is any.
 pub fn block_at(bytes: &[u8], size: BlockSize, place: usize) -> &[u8] {

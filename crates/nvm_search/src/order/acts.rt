@@ -4,7 +4,7 @@
 pub const NONE: u32 = u32::MAX;
 
 /// What an act finds in a block. A *slot* is a content of a block.
-#[derive(Clone, Copy, Debug, PartialEq, Eq)]
+#[derive(Clone, Copy, PartialEq, Eq)]
 pub enum Wants {
     Nothing,
     Slot(u32),
@@ -15,7 +15,7 @@ pub enum Wants {
 }
 
 /// What an act puts in a block.
-#[derive(Clone, Copy, Debug, PartialEq, Eq)]
+#[derive(Clone, Copy, PartialEq, Eq)]
 pub enum Gives {
     Nothing,
     Slot(u32),
@@ -25,7 +25,7 @@ pub enum Gives {
 }
 
 /// A block of an act. Blocks are counted from the first of the part.
-#[derive(Clone, Copy, Debug)]
+#[derive(Clone, Copy)]
 pub struct Cell {
     pub act: u32,
     pub block: u32,
@@ -34,7 +34,7 @@ pub struct Cell {
 }
 
 /// Something that is done at one moment. Times are ranks among all times of the trace.
-#[derive(Clone, Copy, Debug)]
+#[derive(Clone, Copy)]
 pub struct Act {
     /// The number of its point.
     pub point: u32,

@@ -5,7 +5,7 @@ use nvm_record::NoMemory;
 use std::alloc::Global;
 
 /// Acts that do the same. They stand by beginning where nothing else is said.
-#[derive(Clone, Copy, Debug)]
+#[derive(Clone, Copy)]
 pub enum Group {
     All,
     /// All that have to be done and put something.
@@ -35,7 +35,7 @@ pub enum Group {
 }
 
 /// An act of a group, at its time.
-#[derive(Clone, Copy, Debug, PartialEq, Eq, PartialOrd, Ord)]
+#[derive(Clone, Copy, PartialEq, Eq, PartialOrd, Ord)]
 pub struct Entry {
     group: u32,
     pub time: u32,

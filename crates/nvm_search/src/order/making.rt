@@ -1,53 +1,15 @@
 //! The acts of a part.
-use crate::numbers::{MARK, Numbers, Values, ZERO, block_at, to_u32};
+use crate::numbers::{MARK, ZERO, block_at, to_u32};
 use crate::order::acts::{Act, Cell, Gives, NO_ACT, NO_CELL, NONE, Wants};
+use crate::order::known::Known;
 use crate::order::lists::Lists;
 use crate::order::parts::Share;
 use crate::order::slots::Slots;
 use crate::order::together::is_left_out;
 use nvm_record::NoMemory;
-use nvm_standard::{Found, Point, Points, Presence, Put};
+use nvm_standard::{Found, Point, Presence, Put};
 use nvm_trace::Start;
 use std::alloc::Global;
-
-/// What is known of all points.
-#[derive(Drop)]
-pub struct Known<'a, 't> {
-    pub alloc: Global,
-    pub points: &'a Points<'t>,
-    pub values: Values<'t>,
-    /// All times at which a point may begin or has to be over, rising.
-    pub times: Vec<u64>,
-    /// Which points that are done together are to be done.
-    pub together: Numbers,
-    /// The first part of each point, and the last.
-    pub first_part: Numbers,
-    pub last_part: Numbers,
-    /// Of each point of which one block is done, the part in which it has to be, and whether it is there already.
-    pub holder: Numbers,
-    pub met: Numbers,
-    /// The value of a block of FFh.
-    pub ones: u32,
-    /// The value of a block that nobody is expected to find or put.
-    pub fresh: u32,
-    /// How many acts may be looked at yet.
-    pub left: u64,
-}
-
-impl<'a, 't> Known<'a, 't> {
-    /// The rank of a time among all, and that of none: the highest.
-    fn rank(&self, time: Option<u64>) -> u32 {
-        match time {
-            Some(time) => to_u32(self.times.partition_point(|known| *known < time)),
-            None => NONE,
-        }
-    }
-
-    /// Whether the point has blocks in several parts.
-    pub fn is_split(&self, point: u32) -> bool {
-        self.first_part.at(point) != self.last_part.at(point)
-    }
-}
 
 /// A part: its acts, and who finds and gives what.
 #[derive(Drop)]

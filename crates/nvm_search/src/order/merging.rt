@@ -1,147 +1,23 @@
-use crate::numbers::{MARK, Numbers, Values, block_at};
-use crate::order::acts::{Gives, NONE};
-use crate::order::board::{Field, Step};
-use crate::order::making::{Known, Part, part_of};
+//! The order of all points, merged from orders of the parts.
+use crate::numbers::Numbers;
+use crate::order::acts::NONE;
+use crate::order::found::{Found, found_for};
+use crate::order::known::{Known, known_of};
 use crate::order::parts::{Share, shares_of};
-use crate::order::together::done_together;
-use crate::order::trying::{Miss, searched};
+use crate::order::trying::Miss;
 use nvm_judge::Stop;
 use nvm_record::NoMemory;
-use nvm_standard::{Content, FirstContent, Order, Placed, Point, Points, Presence, Value};
+use nvm_standard::{Order, Placed, Points, Presence, Value};
 use std::alloc::Global;
-
-/// The bytes of a block of FFh.
-const ONES: &[u8] = &[0xff; 4096];
 
 /// How many acts may be looked at for each of the effort.
 const EACH: u64 = 100;
-
-/// What was found for a part.
-#[derive(Drop)]
-struct Found<'t> {
-    /// What is placed, each with the latest time at which it or one before it in the part began. Merged by these times the parts' orders
-    /// keep all times.
-    steps: Vec<(u32, Placed<'t>)>,
-    first: Vec<FirstContent<'t>>,
-}
-
-/// What a value stands for.
-fn content_of<'t>(known: &Known<'_, 't>, value: u32) -> Content<'t> {
-    if value == MARK {
-        return Content::Mark;
-    }
-    if value == known.ones {
-        return Content::Ones;
-    }
-    match known.values.bytes_of(value) {
-        Some(bytes) => Content::Bytes(bytes),
-        None => Content::Zeroes,
-    }
-}
-
-/// What the step places.
-fn placed_by<'t>(known: &Known<'_, 't>, part: &Part, step: &Step) -> Placed<'t> {
-    let act = part.act(step.act);
-    let cell = part.cell(act.cell);
-    let block = if act.any { step.block } else { cell.block };
-    let value = match cell.gives {
-        Gives::Deallocated | Gives::Anything if step.slot != NONE => {
-            Value::Put(content_of(known, part.slots.value(step.slot)))
-        }
-        _ => Value::AsIs,
-    };
-    Placed {
-        point: act.point,
-        first: part.first.saturating_add(block),
-        blocks: if act.any { 1 } else { act.cells },
-        value,
-    }
-}
-
-/// An order of the part's points. Notes which points of which one block is done are done in the part.
-fn found_for<'t>(
-    known: &mut Known<'_, 't>,
-    number: u32,
-    shares: &[Share],
-    is_last: bool,
-) -> Result<Result<Found<'t>, Miss>, NoMemory> {
-    let part = part_of(known, shares)?;
-    let board = match searched(known, &part, is_last)? {
-        Ok(board) => board,
-        Err(miss) => return Ok(Err(miss)),
-    };
-    let mut found = Found {
-        steps: Vec::with_capacity(known.alloc, board.steps.len())?,
-        first: Vec::new(known.alloc),
-    };
-    for step in &board.steps {
-        if step.block != NONE {
-            let point = part.act(step.act).point;
-            known.met.put(point, 1);
-            known.holder.put(point, number);
-        }
-        let placed = placed_by(known, &part, step);
-        found.steps.push((step.latest, placed))?;
-    }
-    for block in 0..part.blocks {
-        let slot = board.at(Field::First(block));
-        if slot != NONE {
-            found.first.push(FirstContent {
-                block: part.first.saturating_add(block),
-                content: content_of(known, part.slots.value(slot)),
-            })?;
-        }
-    }
-    Ok(Ok(found))
-}
 
 /// The shares of a part.
 fn shares_in(shares: &Vec<Share>, part: u32) -> Option<&[Share]> {
     let start = shares.partition_point(|share| share.part < part);
     let end = shares.partition_point(|share| share.part <= part);
     shares.get(start..end)
-}
-
-/// All times at which a point may begin or has to be over, rising.
-fn times_of(alloc: Global, points: &Vec<Point<'_>>) -> Result<Vec<u64>, NoMemory> {
-    let mut times = Vec::with_capacity(alloc, points.len())?;
-    for point in points {
-        times.push(point.from)?;
-        for time in [point.until, point.over] {
-            if let Some(time) = time {
-                times.push(time)?;
-            }
-        }
-    }
-    times.sort()?;
-    times.dedup();
-    Ok(times)
-}
-
-/// What is known of the points before any search.
-fn known_of<'a, 't>(
-    alloc: Global,
-    points: &'a Points<'t>,
-    left: u64,
-) -> Result<Known<'a, 't>, NoMemory> {
-    let count = points.points.len();
-    let mut values = Values::new(alloc)?;
-    let ones = values.value_of(block_at(ONES, points.block_size, 0))?;
-    let fresh = values.fresh(points.block_size)?;
-    Ok(Known {
-        alloc,
-        points,
-        values,
-        times: times_of(alloc, &points.points)?,
-        together: done_together(alloc, points)?,
-        first_part: Numbers::new(alloc, count, NONE)?,
-        last_part: Numbers::new(alloc, count, 0)?,
-        holder: Numbers::new(alloc, count, 0)?,
-        met: Numbers::new(alloc, count, 0)?,
-        ones,
-        fresh,
-        left,
-    })
 }
 
 /// Numbers the parts in their order, and notes which of them each point has. Gives how many there are.

@@ -5,7 +5,7 @@ use nvm_standard::Point;
 use std::alloc::Global;
 
 /// The blocks of a point that lie in a part. They follow one another.
-#[derive(Clone, Copy, Debug, PartialEq, Eq, PartialOrd, Ord)]
+#[derive(Clone, Copy, PartialEq, Eq, PartialOrd, Ord)]
 pub struct Share {
     pub part: u32,
     pub point: u32,

@@ -1,15 +1,17 @@
 //! Which acts come before which.
+mod adding;
+mod done;
+
 use crate::numbers::to_u32;
 use crate::order::state::State;
 use nvm_record::NoMemory;
 use std::alloc::Global;
-use std::ops::Range;
 
 /// How many words all rows may have together.
 const MOST_WORDS: u32 = 1 << 23;
 
 /// What the times of a node say.
-#[derive(Clone, Copy, Debug)]
+#[derive(Clone, Copy)]
 struct Row {
     until: u32,
     /// The first and the last word of what they leave open.
@@ -205,11 +207,6 @@ impl Precedence {
         }
     }
 
-    /// When the node was done, counted from 1, or 0.
-    fn turn(&self, node: u32) -> u32 {
-        self.bits.at(self.turn_place(node))
-    }
-
     /// Where the word of nodes that are done stands.
     fn done_place(&self, word: u32) -> u32 {
         self.words.saturating_mul(2).saturating_add(word)
@@ -227,35 +224,9 @@ impl Precedence {
             .saturating_add(node)
     }
 
-    /// The words of the node's rows that may have nodes which aren't done.
-    pub fn open_words(&self, node: u32) -> Range<u32> {
-        let row = self.row(node);
-        row.first.max(self.bits.at(self.open_place()))..row.last.saturating_add(1)
-    }
-
     /// Where the first word stands that has nodes which aren't done.
     fn open_place(&self) -> u32 {
         self.turn_place(self.count())
-    }
-
-    /// Which nodes of a word have to be done before the node and aren't.
-    pub fn missing(&self, node: u32, word: u32) -> u32 {
-        self.before(node, word) & !self.bits.at(self.done_place(word))
-    }
-
-    /// Whether something that isn't done has to be before the node.
-    pub fn is_held_up(&self, node: u32) -> bool {
-        for word in self.open_words(node) {
-            if self.missing(node, word) != 0 {
-                return true;
-            }
-        }
-        false
-    }
-
-    /// Whether the node is done.
-    pub fn is_done(&self, node: u32) -> bool {
-        self.turn(node) != 0
     }
 
     /// Where it stands when the node was done.
@@ -263,91 +234,10 @@ impl Precedence {
         self.end_place(self.count()).saturating_add(node)
     }
 
-    /// Notes that the node is done now, in such a turn, counted from 1: after all that are done, and before all that aren't.
-    pub fn set_done(&mut self, node: u32, turn: u32) -> Result<(), NoMemory> {
-        self.is_absurd = self.is_absurd || self.is_held_up(node);
-        let place = self.done_place(node / 32);
-        let done = self.bits.at(place) | bit(node);
-        self.bits.set(place, done)?;
-        let place = self.turn_place(node);
-        self.bits.set(place, turn)?;
-        let place = self.open_place();
-        let mut open = self.bits.at(place);
-        for word in open..self.count() / 32 {
-            if self.bits.at(self.done_place(word)) != u32::MAX {
-                break;
-            }
-            open = word.saturating_add(1);
-        }
-        self.bits.set(place, open)
-    }
-
     /// Goes back to the mark.
     pub fn back(&mut self, mark: u32) {
         self.bits.back(mark);
         self.found.clear();
         self.is_absurd = false;
-    }
-
-    /// Notes that the one comes before the other, and what follows by that alone. What is done needs no row: it comes before all that isn't.
-    pub fn add(&mut self, one: u32, other: u32) -> Result<(), NoMemory> {
-        if self.is_absurd || self.is_before(one, other) {
-            return Ok(());
-        }
-        if one == other || self.is_before(other, one) {
-            self.is_absurd = true;
-            return Ok(());
-        }
-        for word in self.open_words(other) {
-            let own = if word == one / 32 { bit(one) } else { 0 };
-            let known = self.before(other, word) | self.bits.at(self.done_place(word));
-            let mut left = (self.before(one, word) | own) & !known;
-            for _ in 0..32 {
-                let Some(node) = take_node(word, &mut left) else {
-                    break;
-                };
-                self.add_all_after(node, other)?;
-            }
-        }
-        Ok(())
-    }
-
-    /// Notes that the node comes before `other` and all after that.
-    fn add_all_after(&mut self, node: u32, other: u32) -> Result<(), NoMemory> {
-        let row = self.row(node);
-        let open = self.open_words(node);
-        for word in open.start.max(self.row(other).first)..open.end {
-            let own = if word == other / 32 { bit(other) } else { 0 };
-            let known = self.bits.at(row.at(word));
-            let mut left = (self.after(other, word) | own) & !known;
-            if left == 0 {
-                continue;
-            }
-            self.bits.set(row.at(word), known | left)?;
-            let mut end = self.end(node);
-            for _ in 0..32 {
-                let Some(later) = take_node(word, &mut left) else {
-                    break;
-                };
-                self.note_before(later, node)?;
-                self.found.push((node, later))?;
-                end = end.min(self.row(later).until);
-            }
-            let place = self.end_place(node);
-            self.bits.set(place, end)?;
-        }
-        Ok(())
-    }
-
-    /// Notes in the node's row that another comes before it.
-    fn note_before(&mut self, node: u32, other: u32) -> Result<(), NoMemory> {
-        let row = self.row(node);
-        let word = other / 32;
-        if word < row.first || word > row.last {
-            return Ok(());
-        }
-        let place = row.at(word).saturating_add(self.words);
-        let known = self.bits.at(place);
-        self.bits.set(place, known | bit(other))
     }
 }

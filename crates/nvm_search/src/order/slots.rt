@@ -1,7 +1,7 @@
 //! The contents of a part's blocks.
 use crate::numbers::{MARK, ZERO, to_u32};
 use crate::order::acts::{NONE, Wants};
-use crate::order::making::Known;
+use crate::order::known::Known;
 use nvm_record::NoMemory;
 use nvm_standard::Deallocated;
 use nvm_trace::Start;
@@ -11,7 +11,7 @@ use std::ops::Range;
 pub const UNKNOWN: u32 = u32::MAX;
 
 /// A content of a block.
-#[derive(Clone, Copy, Debug, PartialEq, Eq, PartialOrd, Ord)]
+#[derive(Clone, Copy, PartialEq, Eq, PartialOrd, Ord)]
 struct Slot {
     block: u32,
     value: u32,

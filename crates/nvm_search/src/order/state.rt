@@ -4,7 +4,7 @@ use nvm_record::NoMemory;
 use std::alloc::Global;
 
 /// What a number was before.
-#[derive(Clone, Copy, Debug)]
+#[derive(Clone, Copy)]
 struct Change {
     place: u32,
     old: u32,

@@ -1,7 +1,7 @@
 //! Pairs of which nothing says whether they were done.
 use crate::numbers::{Numbers, block_at, to_u32};
 use crate::order::acts::NONE;
-use crate::order::making::Known;
+use crate::order::known::Known;
 use nvm_record::NoMemory;
 use nvm_standard::{Deallocated, Found, Point, Points, Presence, Put};
 use nvm_trace::Start;

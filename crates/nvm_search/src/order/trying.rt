@@ -2,7 +2,8 @@
 use crate::order::acts::NONE;
 use crate::order::board::Board;
 use crate::order::derivation::Derivation;
-use crate::order::making::{Known, Part};
+use crate::order::known::Known;
+use crate::order::making::Part;
 use crate::order::search::Search;
 use nvm_record::NoMemory;
 
@@ -14,7 +15,7 @@ const EACH_ACT: u64 = 8;
 const TRIES: u64 = 32;
 
 /// Why nothing was found for a part.
-#[derive(Clone, Copy, Debug)]
+#[derive(Clone, Copy)]
 pub enum Miss {
     /// The search got stuck at this point.
     Stuck(u32),
@@ -23,7 +24,7 @@ pub enum Miss {
 }
 
 /// How a part is searched.
-#[derive(Clone, Copy, Debug, PartialEq, Eq)]
+#[derive(Clone, Copy, PartialEq, Eq)]
 enum Way {
     /// By moves that look right.
     Plainly,

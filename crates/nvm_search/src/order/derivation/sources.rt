@@ -2,12 +2,14 @@
 use crate::numbers::{ZERO, to_u32};
 use crate::order::acts::{NONE, Wants};
 use crate::order::board::Board;
-use crate::order::derivation::{Derivation, START};
+use crate::order::derivation::{Derivation, Open, START};
 use crate::order::lists::{Entry, Group};
 use nvm_record::NoMemory;
 
 /// How many that may have put something are looked at for one that found it.
 const MOST_GIVERS: u32 = 65;
+/// How many words of nodes after those beside an act are looked at once it is done.
+const MOST_AFTER: u32 = 2;
 
 impl<'p> Derivation<'p> {
     /// Whether the act surely puts something else in the slot's block.
@@ -181,6 +183,51 @@ impl<'p> Derivation<'p> {
             }
             if self.order.is_before(writer, node) {
                 self.order.add(writer, giver)?;
+            }
+        }
+        Ok(())
+    }
+
+    /// Looks again for who put what is found in the block, by those beside the node or soon after it that aren't done.
+    pub(super) fn close(
+        &mut self,
+        board: &Board<'_>,
+        node: u32,
+        block: u32,
+    ) -> Result<(), NoMemory> {
+        let part = self.part;
+        let from = part.act(self.acts.at(self.order.first_beside(node))).from;
+        let last = self
+            .order
+            .last_word(node)
+            .saturating_add(MOST_AFTER)
+            .saturating_mul(32);
+        let last = self.acts.at(last.min(self.order.count().saturating_sub(1)));
+        let until = part.act(last).from;
+        let sought = Open {
+            block,
+            from,
+            cell: 0,
+        };
+        for place in self.open.partition_point(|open| *open < sought)..self.open.len() {
+            let Some(open) = self.open.get(place) else {
+                break;
+            };
+            let open = *open;
+            if self.order.is_absurd || open.block != block || open.from > until {
+                break;
+            }
+            let cell = part.cell(open.cell);
+            let (Some(finder), Wants::Slot(slot)) = (self.node(cell.act), cell.wants) else {
+                continue;
+            };
+            if self.source(open.cell) != 0 || self.order.is_done(finder) {
+                continue;
+            }
+            let source = self.source_of(Some(board), finder, slot);
+            if source != 0 {
+                self.set_source(finder, open.cell, source)?;
+                self.follow()?;
             }
         }
         Ok(())
