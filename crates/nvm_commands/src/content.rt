@@ -3,7 +3,7 @@ use nvm_evidence::is_evidence;
 use nvm_list::{first_word, without_comment};
 
 /// What a file's bytes look like, by their front.
-#[derive(Clone, Copy, Debug, PartialEq, Eq)]
+#[derive(Clone, Copy)]
 pub enum Content {
     /// There are none.
     Empty,

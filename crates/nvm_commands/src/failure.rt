@@ -11,7 +11,7 @@ use std::alloc::{AllocError, AllocFailed, Global};
 use std::fmt;
 
 /// What helps whoever reads a fault: always the same text, or one that was made for it.
-#[derive(Debug, Drop)]
+#[derive(Drop)]
 pub enum Hint {
     Known(&'static str),
     Made(String),
@@ -28,7 +28,7 @@ impl fmt::Display for Hint {
 
 /// Why the program writes nothing, and what helps whoever reads it. It prints the fault's line, and the hint on the next line
 /// after two spaces.
-#[derive(Debug, Drop)]
+#[derive(Drop)]
 pub struct Failure {
     pub fault: Fault,
     pub hint: Option<Hint>,

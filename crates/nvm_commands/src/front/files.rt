@@ -28,7 +28,7 @@ const FRONT: usize = 4;
 const PAGE: usize = 4_096;
 
 /// Why a file or a standard stream wasn't read, or wasn't written.
-#[derive(Clone, Copy, Debug, PartialEq, Eq)]
+#[derive(Clone, Copy)]
 pub enum FileFault {
     /// The system refused it, for a reason of this kind.
     Refused(ErrorKind),
@@ -46,7 +46,7 @@ impl From<io::Error> for FileFault {
 }
 
 /// What is read: a file of ours, or text.
-#[derive(Clone, Copy, Debug, PartialEq, Eq)]
+#[derive(Clone, Copy)]
 pub enum InputKind {
     File,
     Text,

@@ -6,7 +6,7 @@ use nvm_trace::Judging;
 use std::alloc::Global;
 
 /// How a verdict is printed.
-#[derive(Clone, Copy, Debug, PartialEq, Eq)]
+#[derive(Clone, Copy)]
 pub enum Telling {
     /// As lines for people.
     Lines,

@@ -12,7 +12,7 @@ use std::fmt;
 use std::fmt::{Display, Formatter};
 
 /// What was expected of an option's value.
-#[derive(Clone, Copy, Debug, PartialEq, Eq)]
+#[derive(Clone, Copy)]
 pub enum Expected {
     /// A number.
     Number,

@@ -7,7 +7,7 @@ use std::rt::Env;
 use std::{env, io};
 
 /// Why the words of the command line ask for nothing that can be done.
-#[derive(Debug, Drop)]
+#[derive(Drop)]
 pub enum WordFault {
     /// What `clap` says of them. A call for help is one, too.
     Words(Error),

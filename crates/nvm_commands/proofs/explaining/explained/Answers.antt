@@ -13,7 +13,7 @@ returns-in-Record g c =
     (λ failure is.
     subst (λ (words : ExplainWords). IsUntold words failure.fault) (sym c.in-Record.is)
     (subst (λ (path : List ℕ). IsReadFault path failure.fault ⊎ IsFaultOfRecordAt path failure.fault) c.as_str.ensures.value is))
-    c.record_explained.ensures
+    c.record_explained.ensures.fault
 
 pub returns-in-Trace : goal.returns-in-Trace
 returns-in-Trace g c =
