@@ -8,7 +8,7 @@ pub returns-in-Err : goal.returns-in-Err
 returns-in-Err g c =
     let it = c.index-outs-place.result in
     let fault = c.unmade.result.fault in
-    let write : IsWriteFault (string_bytes it) fault = subst (λ (bytes : List ℕ). IsWriteFault bytes fault) c.as_str.ensures.value c.unmade.ensures in
+    let write : IsWriteFault (string_bytes it) fault = subst (λ (bytes : List ℕ). IsWriteFault bytes fault) c.as_str-path.ensures.value c.unmade.ensures in
     inr (one_of IsWriteFault c.args.outs.now c.loop-place.place it fault c.loop-place-test.true (sym c.index-outs-place.is) write)
 
 pub returns-in_err-made : goal.returns-in_err-made
