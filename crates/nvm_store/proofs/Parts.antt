@@ -1,5 +1,5 @@
 -- The blocks of parts of one span, joined: where a place lies, and what a change there does.
-use Rattle.std.proofs.Common.{◌≡◌, ℕ, zero, suc, ◌+◌, ◌-◌, ◌*◌, ◌/◌, ◌%◌, ◌<◌, ◌≤◌, List, [], ◌∷◌, ◌++◌, length, get_or, take, drop, replicate, refl, sym, ap, ◌∙◌, arith, inl, inr}
+use Rattle.std.proofs.Common.{◌≡◌, ℕ, zero, suc, ◌+◌, ◌-◌, ◌*◌, ◌/◌, ◌%◌, ◌<◌, ◌≤◌, List, [], ◌∷◌, ◌++◌, length, get_or, take, drop, replicate, Bool, true, false, refl, sym, ap, ◌∙◌, arith, inl, inr}
 use Rattle.std.proofs.Math.ListN.{set, length-take}
 use Rattle.std.proofs.Math.Nat.{div-add-mod}
 use Rattle.std.proofs.Math.Seq.{drop-append-add, map-set_same}
@@ -222,6 +222,11 @@ pub keeps_length : {T E : Type 0} (r : Result T E) (old new : List Block) (i : �
     → OnOk r (new ≡ set old i x) → OnErr r (new ≡ old) → length new ≡ length old
 keeps_length (Ok y) old new i x ok err = ap length ok ∙ length-set old i x
 keeps_length (Err y) old new i x ok err = ap length err
+
+pub overwriting_keeps_length : (taken : Bool) (old new : List Block) (i : ℕ) (x : Block)
+    → (taken ≡ true → new ≡ set old i x) → (taken ≡ false → new ≡ old) → length new ≡ length old
+overwriting_keeps_length true old new i x ok left = ap length (ok refl) ∙ length-set old i x
+overwriting_keeps_length false old new i x ok left = ap length (left refl)
 
 pub filling_keeps_length : {E : Type 0} (r : Result ℕ E) (source : Source) (at from to least : ℕ) (old new : List Block)
     → IfOk r (λ n. IsFilled source at from to least n old new) → OnErr r (new ≡ old) → length new ≡ length old

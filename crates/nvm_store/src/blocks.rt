@@ -1,4 +1,4 @@
-ghost use Rattle.std.specs.Prelude.{◌≡◌, ◌+◌, ◌*◌, ◌^◌, ◌++◌, ◌<◌, ◌≤◌, IfOk, OnErr, OnOk, false, length, replicate};
+ghost use Rattle.std.specs.Prelude.{◌≡◌, ◌+◌, ◌*◌, ◌^◌, ◌++◌, ◌<◌, ◌≤◌, IfOk, OnErr, OnOk, false, length, replicate, true};
 ghost use Rattle.std.specs.Str.{bytes_eq};
 ghost use Rattle.nvm_record.specs.PayloadRef.{lent_bytes};
 ghost use Rattle.nvm_record.specs.declared.block.Block.TheVariants.{Uncorrectable};
@@ -208,17 +208,20 @@ impl Blocks {
         }
     }
 
-    /// Puts the bytes of the `count` blocks from place `at`, one block after the other, into the buffer, which has room for exactly these.
-    /// A marked block has no bytes.
+    /// Whether one of the `count` blocks from place `at` is marked. Else their bytes, one block after the other, are in the buffer, which has room
+    /// for exactly these.
     #[inline(always)]
-    pub fn copy_to(&self, at: usize, count: usize, buffer: &mut [u8])
+    pub fn read_into(&self, at: usize, count: usize, buffer: &mut [u8]) -> bool
         requires range { at + count ≤ length self.now }
-        requires room { length buffer.old ≡ length (medium.joined (stretch_of at count self.now)) }
-        ensures { buffer.new ≡ medium.joined (stretch_of at count self.now) }
+        requires room { medium.has_mark (stretch_of at count self.now) ≡ false
+            → length buffer.old ≡ length (medium.joined (stretch_of at count self.now)) }
+        ensures marked { result ≡ medium.has_mark (stretch_of at count self.now) }
+        ensures read { result ≡ false → buffer.new ≡ medium.joined (stretch_of at count self.now) }
+        ensures left { result ≡ true → buffer.new ≡ buffer.old }
     {
         match &self.memory {
-            Memory::Shared(blocks) => blocks.copy_to(at, count, buffer),
-            Memory::Own(blocks) => blocks.copy_to(at, count, buffer),
+            Memory::Shared(blocks) => blocks.read_into(at, count, buffer),
+            Memory::Own(blocks) => blocks.read_into(at, count, buffer),
         }
     }
 }

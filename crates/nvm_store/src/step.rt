@@ -143,9 +143,8 @@ fn read_into(unit: &UnitBlocks, first: u64, blocks: u32, buffer: &mut [u8]) -> S
     ensures { (m : Medium) → Holds unit.now m
         → IsAnswerInto (read_operation first blocks) m result buffer.old buffer.new }
 {
-    if unit.has_mark(first, blocks) {
+    if unit.read_into(first, blocks, buffer) {
         return Status::UNRECOVERED_READ_ERROR;
     }
-    unit.copy_to(first, blocks, buffer);
     Status::SUCCESSFUL_COMPLETION
 }

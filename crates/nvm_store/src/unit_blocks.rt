@@ -1,4 +1,4 @@
-ghost use Rattle.std.specs.Prelude.{◌≡◌, ◌↔◌, ◌+◌, ◌*◌, ◌^◌, ◌<◌, ◌≤◌, IfOk, IsTrue, OnErr, OnOk, false, length};
+ghost use Rattle.std.specs.Prelude.{◌≡◌, ◌↔◌, ◌+◌, ◌*◌, ◌^◌, ◌<◌, ◌≤◌, IfOk, IsTrue, OnErr, OnOk, false, length, true};
 ghost use Rattle.std.specs.Str.{bytes_eq};
 ghost use Rattle.nvm_record.specs.Medium as medium;
 ghost use Rattle.nvm_record.specs.Medium.{Medium, zero_medium, range};
@@ -314,15 +314,16 @@ impl UnitBlocks {
         Ok(bytes)
     }
 
-    /// Puts the bytes of the `blocks` LBAs from `first` into the buffer, which has room for exactly these. It takes no memory.
+    /// Whether one of the `blocks` LBAs from `first` is marked. Else their bytes are in the buffer, which has room for exactly these. It takes no memory.
     #[inline(always)]
-    pub(crate) fn copy_to(&self, first: u64, blocks: u32, buffer: &mut [u8])
+    pub(crate) fn read_into(&self, first: u64, blocks: u32, buffer: &mut [u8]) -> bool
         requires range { IsWithin (place_of self.now) first blocks }
-        requires unmarked { medium.has_mark (blocks_at self.now first blocks) ≡ false }
         requires room { length buffer.old ≡ blocks * self.now.size }
-        ensures { (m : Medium) → Holds self.now m → buffer.new ≡ medium.joined (range m first blocks) }
+        ensures marked { (m : Medium) → Holds self.now m → result ≡ medium.has_mark (range m first blocks) }
+        ensures read { result ≡ false → (m : Medium) → Holds self.now m → buffer.new ≡ medium.joined (range m first blocks) }
+        ensures left { result ≡ true → buffer.new ≡ buffer.old }
     {
         let at = (first - self.first) as usize;
-        self.blocks.copy_to(at, blocks as usize, buffer);
+        self.blocks.read_into(at, blocks as usize, buffer)
     }
 }

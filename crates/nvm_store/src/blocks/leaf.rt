@@ -50,13 +50,20 @@ impl Leaf {
 impl Tree for Leaf {
     ghost blocks = { λ l. l };
 
+    #[inline(always)]
     fn stretch(&self, at: usize) -> &[StoredBlock] {
         &self.kept[at..]
     }
 
     #[inline(always)]
     fn set(&mut self, alloc: Global, at: usize, source: &Source<'_>) -> Result<(), NoMemory> {
-        self.kept[at].put_first(alloc, source)
+        self.kept[at] = source.block(alloc, 0)?;
+        Ok(())
+    }
+
+    #[inline(always)]
+    fn overwrite(&mut self, at: usize, bytes: &[u8]) -> bool {
+        self.kept[at].overwrite(bytes)
     }
 
     fn fill(

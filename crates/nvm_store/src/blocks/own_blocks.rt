@@ -1,4 +1,4 @@
-ghost use Rattle.std.specs.Prelude.{◌≡◌, ◌⊎◌, ◌+◌, ◌*◌, ◌++◌, ◌≤◌, [], IfOk, OnErr, OnOk, length, replicate};
+ghost use Rattle.std.specs.Prelude.{◌≡◌, ◌⊎◌, ◌+◌, ◌*◌, ◌++◌, ◌≤◌, [], IfOk, OnErr, OnOk, false, length, replicate};
 ghost use Rattle.std.specs.Str.{bytes_eq};
 ghost use Rattle.nvm_record.specs.Medium as medium;
 ghost use Rattle.nvm_record.specs.Step.{block_at};
@@ -122,7 +122,8 @@ impl OwnBlocks {
     #[inline(always)]
     pub fn has_mark(&self, at: usize, count: usize) -> bool
         requires { at + count ≤ length self.now }
-        ensures { result ≡ medium.has_mark (stretch_of at count self.now) }
+        ensures is { result ≡ medium.has_mark (stretch_of at count self.now) }
+        ensures none { result ≡ false }
     {
         // For the proof alone: each of them is cut from the bytes.
         let _count = self.count;
@@ -159,9 +160,24 @@ impl OwnBlocks {
         bytes.extend_from_slice(&self.bytes[from..from + len])
     }
 
+    /// Puts the bytes of the `count` blocks from place `at` into the buffer, which has room for exactly these, and says that none of them is marked.
+    #[inline(always)]
+    pub fn read_into(&self, at: usize, count: usize, buffer: &mut [u8]) -> bool
+        requires range { at + count ≤ length self.now }
+        requires room { medium.has_mark (stretch_of at count self.now) ≡ false
+            → length buffer.old ≡ length (medium.joined (stretch_of at count self.now)) }
+        ensures marked { result ≡ medium.has_mark (stretch_of at count self.now) }
+        ensures read { buffer.new ≡ medium.joined (stretch_of at count self.now) }
+        ensures none { result ≡ false }
+    {
+        let marked = self.has_mark(at, count);
+        self.copy_to(at, count, buffer);
+        marked
+    }
+
     /// Puts the bytes of the `count` blocks from place `at` into the buffer, which has room for exactly these.
     #[inline(always)]
-    pub fn copy_to(&self, at: usize, count: usize, buffer: &mut [u8])
+    fn copy_to(&self, at: usize, count: usize, buffer: &mut [u8])
         requires range { at + count ≤ length self.now }
         requires room { length buffer.old ≡ length (medium.joined (stretch_of at count self.now)) }
         ensures { buffer.new ≡ medium.joined (stretch_of at count self.now) }

@@ -1,6 +1,6 @@
-ghost use Rattle.std.specs.Prelude.{◌≡◌, ℕ, ◌+◌, ◌*◌, ◌++◌, ◌-◌, ◌<◌, ◌≤◌, IfOk, OnErr, OnOk, length, replicate};
+ghost use Rattle.std.specs.Prelude.{◌≡◌, ℕ, ◌+◌, ◌*◌, ◌++◌, ◌-◌, ◌<◌, ◌≤◌, IfOk, OnErr, OnOk, false, length, replicate, true};
 ghost use Rattle.std.specs.Str.{bytes_eq};
-ghost use Rattle.nvm_record.specs.declared.block.Block.TheVariants.{Uncorrectable};
+ghost use Rattle.nvm_record.specs.declared.block.Block.TheVariants.{Bytes, Uncorrectable};
 ghost use Rattle.nvm_record.specs.Lists.{IsAt};
 ghost use Rattle.nvm_record.specs.Medium as medium;
 ghost use Rattle.nvm_record.specs.PayloadRef.{lent_bytes};
@@ -79,7 +79,29 @@ impl SharedBlocks {
 
     /// The `count` blocks from place `at` take the data, in blocks of `size` bytes. They share it, if it is shared. Else one that is alone
     /// takes it into its own memory if it can, and several share a copy.
+    #[inline(always)]
     pub fn write(
+        &mut self,
+        alloc: Global,
+        at: usize,
+        count: usize,
+        size: usize,
+        payload: PayloadRef<'_>,
+    ) -> Result<(), NoMemory>
+        requires range { at + count ≤ length self.old }
+        requires payload { length (lent_bytes payload) ≡ count * size }
+        ensures ok { OnOk result (IsRewritten at count (block_at size (lent_bytes payload.entry)) self.old self.new) }
+        ensures err { OnErr result (self.new ≡ self.old) }
+    {
+        if count == 1 && !payload.is_shared() && self.overwrite(at, payload.as_slice()) {
+            return Ok(());
+        }
+        self.put_data(alloc, at, count, size, payload)
+    }
+
+    /// The `count` blocks from place `at` take a share of the data, or of a copy.
+    #[inline(never)]
+    fn put_data(
         &mut self,
         alloc: Global,
         at: usize,
@@ -200,8 +222,41 @@ impl SharedBlocks {
         Ok(())
     }
 
+    /// Whether one of the `count` blocks from place `at` is marked. Else their bytes, one block after the other, are in the buffer, which has room
+    /// for exactly these. The way to one block is gone once.
+    #[inline(always)]
+    pub fn read_into(&self, at: usize, count: usize, buffer: &mut [u8]) -> bool
+        requires range { at + count ≤ length self.now }
+        requires room { medium.has_mark (stretch_of at count self.now) ≡ false
+            → length buffer.old ≡ length (medium.joined (stretch_of at count self.now)) }
+        ensures marked { result ≡ medium.has_mark (stretch_of at count self.now) }
+        ensures read { result ≡ false → buffer.new ≡ medium.joined (stretch_of at count self.now) }
+        ensures left { result ≡ true → buffer.new ≡ buffer.old }
+    {
+        if count == 1 {
+            return self.read_one(at, buffer);
+        }
+        if self.has_mark(at, count) {
+            return true;
+        }
+        self.copy_to(at, count, buffer);
+        false
+    }
+
+    /// Whether the block at place `at` is marked. Else its bytes are in the buffer, which has room for exactly these.
+    fn read_one(&self, at: usize, buffer: &mut [u8]) -> bool
+        requires range { at + 1 ≤ length self.now }
+        requires room { medium.has_mark (stretch_of at 1 self.now) ≡ false
+            → length buffer.old ≡ length (medium.joined (stretch_of at 1 self.now)) }
+        ensures marked { result ≡ medium.has_mark (stretch_of at 1 self.now) }
+        ensures read { result ≡ false → buffer.new ≡ medium.joined (stretch_of at 1 self.now) }
+        ensures left { result ≡ true → buffer.new ≡ buffer.old }
+    {
+        self.stretch(at, 1)[0].read_into(buffer)
+    }
+
     /// Puts the bytes of the `count` blocks from place `at` into the buffer, which has room for exactly these. A marked block has no bytes.
-    pub fn copy_to(&self, at: usize, count: usize, buffer: &mut [u8])
+    fn copy_to(&self, at: usize, count: usize, buffer: &mut [u8])
         requires range { at + count ≤ length self.now }
         requires room { length buffer.old ≡ length (medium.joined (stretch_of at count self.now)) }
         ensures { buffer.new ≡ medium.joined (stretch_of at count self.now) }
@@ -252,8 +307,18 @@ impl SharedBlocks {
         }
     }
 
-    /// Puts the source's first block at place `at`.
+    /// Puts these bytes in the place of those of the block at place `at`, and says whether it did. It does where nobody shares its memory or its way
+    /// in the tree, and it has as many.
     #[inline(always)]
+    fn overwrite(&mut self, at: usize, bytes: &[u8]) -> bool
+        requires { at < length self.old }
+        ensures taken { result ≡ true → IsRewritten at 1 (λ _. Bytes bytes.now) self.old self.new }
+        ensures left { result ≡ false → self.new ≡ self.old }
+    {
+        self.levels.overwrite(at, bytes)
+    }
+
+    /// Puts the source's first block at place `at`.
     fn set(&mut self, alloc: Global, at: usize, source: &Source<'_>) -> Result<(), NoMemory>
         requires range { at < length self.old }
         requires source { HasBlocks source.now 1 }

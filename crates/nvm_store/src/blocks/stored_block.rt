@@ -1,13 +1,11 @@
-ghost use Rattle.std.specs.Prelude.{◌≡◌, ◌++◌, ℕ, List, IfOk, IsTrue, OnErr, OnOk, MatchOption, ◌↔◌, ◌+◌, ◌≤◌, length, replicate, take};
+ghost use Rattle.std.specs.Prelude.{◌≡◌, ◌++◌, ℕ, List, IfOk, IsTrue, OnOk, MatchOption, false, true, ◌↔◌, ◌+◌, ◌≤◌, length, replicate, take};
 ghost use Rattle.std.specs.Bool.{OnTrue};
 ghost use Rattle.nvm_record.specs.declared.block.Block.TheVariants.{Bytes, Uncorrectable};
 ghost use Rattle.nvm_record.specs.Medium as medium;
 ghost use Rattle.nvm_record.specs.Medium.{bytes_of};
 ghost use Rattle.nvm_store.specs.Inside.Rewrite.{zero_block};
-ghost use Rattle.nvm_store.specs.Inside.Source.{HasBlocks, source_block};
 
 use crate::blocks::content::Content;
-use crate::blocks::source::Source;
 use nvm_record::{NoMemory, Payload, are_equal};
 use std::alloc::{AllocError, Global};
 use std::marker::Model;
@@ -66,25 +64,16 @@ impl StoredBlock {
         }
     }
 
-    /// Becomes the source's first block. Data that nobody shares goes into the block's own memory, where it has as many bytes and shares
-    /// them with nobody either. Else the block takes a share of the data, or a copy; where that is refused it is as it was.
+    /// Puts these bytes in the place of its own, and says whether it did. It does where it has as many, in memory that nobody shares.
     #[inline(always)]
-    pub fn put_first(&mut self, alloc: Global, source: &Source<'_>) -> Result<(), NoMemory>
-        requires { HasBlocks source.now 1 }
-        ensures ok { OnOk result (self.new ≡ source_block source.now 0) }
-        ensures err { OnErr result (self.new ≡ self.old) }
+    pub fn overwrite(&mut self, bytes: &[u8]) -> bool
+        ensures taken { result ≡ true → self.new ≡ Bytes bytes.now }
+        ensures left { result ≡ false → self.new ≡ self.old }
     {
-        if let Source::Data { size, payload } = *source {
-            if !payload.is_shared() {
-                if let Content::Data(own) = &mut self.content {
-                    if own.overwrite(payload.part(0, size).as_slice()) {
-                        return Ok(());
-                    }
-                }
-            }
+        match &mut self.content {
+            Content::Data(own) => own.overwrite(bytes),
+            Content::Zero { .. } | Content::Marked => false,
         }
-        *self = source.block(alloc, 0)?;
-        Ok(())
     }
 
     /// Whether the block is marked, and can't be read.
@@ -129,6 +118,27 @@ impl StoredBlock {
             Content::Zero { size } => push_zeroes(*size, bytes),
             Content::Data(own) => bytes.extend_from_slice(own.as_slice()),
             Content::Marked => Ok(()),
+        }
+    }
+
+    /// Whether it is marked. Else its bytes are in the buffer, which has room for exactly these.
+    #[inline(always)]
+    pub fn read_into(&self, buffer: &mut [u8]) -> bool
+        requires room { medium.is_marked self.now ≡ false → length buffer.old ≡ length (bytes_of self.now) }
+        ensures marked { result ≡ medium.is_marked self.now }
+        ensures read { result ≡ false → buffer.new ≡ bytes_of self.now }
+        ensures left { result ≡ true → buffer.new ≡ buffer.old }
+    {
+        match &self.content {
+            Content::Zero { .. } => {
+                buffer.fill(0);
+                false
+            }
+            Content::Data(own) => {
+                buffer.copy_from_slice(own.as_slice());
+                false
+            }
+            Content::Marked => true,
         }
     }
 

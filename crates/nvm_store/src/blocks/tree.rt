@@ -1,6 +1,7 @@
-ghost use Rattle.std.specs.Prelude.{◌≡◌, ◌<◌, List, length, IfOk, OnOk, OnErr, slice_set};
+ghost use Rattle.std.specs.Prelude.{◌≡◌, ◌<◌, List, length, IfOk, OnOk, OnErr, false, slice_set, true};
 ghost use Rattle.std.specs.Arc.{arc_value};
 ghost use Rattle.nvm_record.specs.declared.block.Block.{Block};
+ghost use Rattle.nvm_record.specs.declared.block.Block.TheVariants.{Bytes};
 ghost use Rattle.nvm_store.specs.Inside.Source.{HasBlocks, IsFilled, source_block};
 ghost use Rattle.nvm_store.specs.Inside.Tree.{IsStretch};
 
@@ -27,6 +28,13 @@ pub trait Tree: Drop {
         requires source { HasBlocks source.now 1 }
         ensures ok { OnOk result (blocks self.new ≡ slice_set (blocks self.old) at (source_block source.now 0)) }
         ensures err { OnErr result (blocks self.new ≡ blocks self.old) };
+
+    /// Puts these bytes in the place of those of the block at place `at`, and says whether it did. It does where nobody shares a node on its path or
+    /// its memory, and it has as many.
+    fn overwrite(&mut self, at: usize, bytes: &[u8]) -> bool
+        requires { at < length (blocks self.old) }
+        ensures taken { result ≡ true → blocks self.new ≡ slice_set (blocks self.old) at (Bytes bytes.now) }
+        ensures left { result ≡ false → blocks self.new ≡ blocks self.old };
 
     /// Puts the source's blocks from place `from` up to place `to` at the places from `at` on, as far as
     /// these are in one leaf, and answers how many. Where fewer than `least` do, it answers 0 and does
@@ -94,6 +102,21 @@ pub fn set_in<T: Tree>(
             *node = Arc::new(alloc, other)?;
             Ok(())
         }
+    }
+}
+
+
+/// Puts these bytes in the place of those of the node's block at place `at`, where nobody shares the node either.
+#[inline(always)]
+pub fn overwrite_in<T: Tree>(node: &mut Arc<T>, at: usize, bytes: &[u8]) -> bool
+    requires { at < length (T.blocks (arc_value node.old)) }
+    ensures taken { result ≡ true
+        → T.blocks (arc_value node.new) ≡ slice_set (T.blocks (arc_value node.old)) at (Bytes bytes.now) }
+    ensures left { result ≡ false → T.blocks (arc_value node.new) ≡ T.blocks (arc_value node.old) }
+{
+    match Arc::get_mut(node) {
+        Some(own) => own.overwrite(at, bytes),
+        None => false,
     }
 }
 

@@ -10,7 +10,7 @@ invariant_of-new g c =
     rw c.loop.invariant
     (record {
       some = c.requires.some;
-      spans = spans-replicate c.loop.counter c.args.span (g.T.Tree.blocks (arc_value c.args.node)) c.requires.span;
+      spans = spans-replicate c.loop.counter g.row.SPAN (g.T.Tree.blocks (arc_value c.args.node)) c.requires.span;
     })
 
 pub returns : goal.returns
@@ -19,5 +19,5 @@ returns g c block is =
     let all : n ≡ c.args.count = omega arith in
     c.in_ok-new.ensures.ok
     ∙ ap joined_parts (c.loop.invariant ∙ ap (λ (bs : List Block). replicate n bs) is)
-    ∙ joined_parts-replicate n c.args.span block
-    ∙ ap (λ (k : ℕ). replicate (k * c.args.span) block) all
+    ∙ joined_parts-replicate n g.row.SPAN block
+    ∙ ap (λ (k : ℕ). replicate (k * g.row.SPAN) block) all

@@ -8,6 +8,7 @@ loop-kid-preserved g c =
     let i = c.loop-kid.kid-index in
     let lt : i < length kids = rw c.deref-kid-items.ensures.value at c.loop-kid-test.true in
     let is = rw c.deref-kid-items.ensures.value at c.kid-item.is in
-    rw c.in_ok-push.ensures.items
+    let so_far = rw c.deref-kid-items.ensures.value at c.loop-kid.invariant in
+    rw (c.in_ok-push.ensures.items, c.deref-kid-items.ensures.value)
     (copied_more g.T.Tree.blocks kids c.loop-kid.copies.items i c.kid-item.result c.in_ok-try_clone.field-0 lt is c.in_ok-try_clone.ensures
-    c.loop-kid.invariant)
+    so_far)

@@ -4,4 +4,4 @@ use Rattle.nvm_store.proofs.blocks.fork.ForkTree.copy.Given as goal
 
 abbrev pub invariant-loop-kid : goal.invariant-loop-kid
 invariant-loop-kid g l =
-    parts_of g.T.Tree.blocks l.copies.items ≡ take l.kid-index (parts_of g.T.Tree.blocks l.self-inside.kids.items)
+    parts_of g.T.Tree.blocks l.copies.items ≡ take l.kid-index (parts_of g.T.Tree.blocks l.kid-items)

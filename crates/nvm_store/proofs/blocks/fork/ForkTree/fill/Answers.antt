@@ -7,14 +7,14 @@ use Rattle.nvm_store.proofs.blocks.fork.ForkTree.fill.Goals as goal
 
 pub index_mut-requires : goal.index_mut-requires
 index_mut-requires g c =
-    let lies = place_in g.T.Tree.blocks c.self.inside.kids.items c.self.inside.span c.args.at c.self.invariant
+    let lies = place_in g.T.Tree.blocks c.self.inside.kids.items g.row.SPAN c.args.at c.self.invariant
     (rw (← c.self.view_is) at c.requires.range) in
     rw c.self.inside.kids.ok.0 lies.part
 
 pub fill_in-requires-clause-range : goal.fill_in-requires-clause-range
 fill_in-requires-clause-range g c =
     let kids = c.self.inside.kids.items in
-    let span = c.self.inside.span in
+    let span = g.row.SPAN in
     let lies = place_in g.T.Tree.blocks kids span c.args.at c.self.invariant (rw (← c.self.view_is) at c.requires.range) in
     within_part g.T.Tree.blocks kids span c.args.at c.index_mut.result.now c.self.invariant lies (sym c.index_mut.ensures.value)
 
@@ -22,7 +22,7 @@ pub invariant_of-self : goal.invariant_of-self
 invariant_of-self g c =
     let blocks = g.T.Tree.blocks in
     let kids = c.self.inside.kids.items in
-    let span = c.self.inside.span in
+    let span = g.row.SPAN in
     let kid = c.index_mut.result.now in
     let lies = place_in blocks kids span c.args.at c.self.invariant (rw (← c.self.view_is) at c.requires.range) in
     fork-set blocks kids span c.args.at kid c.fill_in.new.node c.self.invariant lies (sym c.index_mut.ensures.value)
@@ -33,7 +33,7 @@ pub returns-clause-ok : goal.returns-clause-ok
 returns-clause-ok g c =
     let blocks = g.T.Tree.blocks in
     let kids = c.self.inside.kids.items in
-    let span = c.self.inside.span in
+    let span = g.row.SPAN in
     let lies = place_in blocks kids span c.args.at c.self.invariant (rw (← c.self.view_is) at c.requires.range) in
     IfOk-weaker c.fill_in.result _ _
     (λ n filled. rw (← c.self.view_is)
@@ -44,7 +44,7 @@ returns-clause-ok g c =
 pub returns-clause-err : goal.returns-clause-err
 returns-clause-err g c =
     let kids = c.self.inside.kids.items in
-    let span = c.self.inside.span in
+    let span = g.row.SPAN in
     let lies = place_in g.T.Tree.blocks kids span c.args.at c.self.invariant (rw (← c.self.view_is) at c.requires.range) in
     on_err_weaker c.fill_in.result
     (λ same. rw (← c.self.view_is)

@@ -5,21 +5,21 @@ use Rattle.nvm_store.proofs.blocks.fork.ForkTree.stretch.Goals as goal
 
 pub index-kid-requires : goal.index-kid-requires
 index-kid-requires g c =
-    let lies = place_in g.T.Tree.blocks c.self.inside.kids.items c.self.inside.span c.args.at c.self.invariant
+    let lies = place_in g.T.Tree.blocks c.self.inside.kids.items g.row.SPAN c.args.at c.self.invariant
     (rw (← c.self.view_is) at c.requires) in
     rw c.self.inside.kids.ok.0 lies.part
 
 pub stretch-requires : goal.stretch-requires
 stretch-requires g c =
     let kids = c.self.inside.kids.items in
-    let span = c.self.inside.span in
+    let span = g.row.SPAN in
     let lies = place_in g.T.Tree.blocks kids span c.args.at c.self.invariant (rw (← c.self.view_is) at c.requires) in
     rw c.deref.ensures (within_part g.T.Tree.blocks kids span c.args.at c.index-kid.result.now c.self.invariant lies (sym c.index-kid.ensures))
 
 pub returns : goal.returns
 returns g c =
     let kids = c.self.inside.kids.items in
-    let span = c.self.inside.span in
+    let span = g.row.SPAN in
     let lies = place_in g.T.Tree.blocks kids span c.args.at c.self.invariant (rw (← c.self.view_is) at c.requires) in
     let part = part_is g.T.Tree.blocks kids (c.args.at / span) c.index-kid.result.now c.index-kid.result.now lies.part (sym c.index-kid.ensures) in
     let stretch = rw (c.deref.ensures, ← part) at c.stretch.ensures in

@@ -3,8 +3,8 @@ use Rattle.std.proofs.lemmas.List.{length-replicate}
 use Rattle.nvm_store.specs.Inside.Rewrite.{zero_block}
 use Rattle.nvm_store.proofs.blocks.levels.Levels.zeroed.Goals as goal
 
-pub returns-then-count-le-TWO : goal.returns-then-count-le-TWO
-returns-then-count-le-TWO c =
+pub returns-then-count-le-TWO_LEVELS : goal.returns-then-count-le-TWO_LEVELS
+returns-then-count-le-TWO_LEVELS c =
     let block = zero_block c.args.size in
     record {
       all = (c.args.count / 8 + 1) * 8;
@@ -12,8 +12,8 @@ returns-then-count-le-TWO c =
       are = c.in_ok-of.ensures block c.in_ok-leaf.ensures;
     }
 
-pub returns-then-count-le-THREE : goal.returns-then-count-le-THREE
-returns-then-count-le-THREE c =
+pub returns-then-count-le-THREE_LEVELS : goal.returns-then-count-le-THREE_LEVELS
+returns-then-count-le-THREE_LEVELS c =
     let block = zero_block c.args.size in
     record {
       all = (c.args.count / 128 + 1) * 128;
@@ -21,8 +21,8 @@ returns-then-count-le-THREE c =
       are = c.in_ok-of-2.ensures block (c.in_ok-two.ensures block c.in_ok-leaf.ensures);
     }
 
-pub returns-then-count : goal.returns-then-count
-returns-then-count c =
+pub returns-then-count-le-FOUR_LEVELS : goal.returns-then-count-le-FOUR_LEVELS
+returns-then-count-le-FOUR_LEVELS c =
     let block = zero_block c.args.size in
     record {
       all = (c.args.count / 2048 + 1) * 2048;
@@ -39,17 +39,17 @@ returns c =
       are = c.in_ok-of-4.ensures block (c.in_ok-four.ensures block (c.in_ok-three.ensures block (c.in_ok-two.ensures block c.in_ok-leaf.ensures)));
     }
 
-pub of-requires-then-count-clause-span : goal.of-requires-then-count-clause-span
-of-requires-then-count-clause-span c =
+pub of-requires-then-count-le-FOUR_LEVELS : goal.of-requires-then-count-le-FOUR_LEVELS
+of-requires-then-count-le-FOUR_LEVELS c =
     let block = zero_block c.args.size in
-    ap length (c.in_ok-three.ensures block (c.in_ok-two.ensures block c.in_ok-leaf.ensures)) ∙ length-replicate 2048 block
+    (omega arith, (omega arith, ap length (c.in_ok-three.ensures block (c.in_ok-two.ensures block c.in_ok-leaf.ensures)) ∙ length-replicate 2048 block))
 
-pub of-requires-4-clause-span : goal.of-requires-4-clause-span
-of-requires-4-clause-span c =
+pub of-requires-4 : goal.of-requires-4
+of-requires-4 c =
     let block = zero_block c.args.size in
-    ap length (c.in_ok-three.ensures block (c.in_ok-two.ensures block c.in_ok-leaf.ensures)) ∙ length-replicate 2048 block
+    (omega arith, (omega arith, ap length (c.in_ok-three.ensures block (c.in_ok-two.ensures block c.in_ok-leaf.ensures)) ∙ length-replicate 2048 block))
 
-pub of-requires-5-clause-span : goal.of-requires-5-clause-span
-of-requires-5-clause-span c =
+pub of-requires-5 : goal.of-requires-5
+of-requires-5 c =
     let block = zero_block c.args.size in
-    ap length (c.in_ok-four.ensures block (c.in_ok-three.ensures block (c.in_ok-two.ensures block c.in_ok-leaf.ensures))) ∙ length-replicate 524288 block
+    (omega arith, (omega arith, ap length (c.in_ok-four.ensures block (c.in_ok-three.ensures block (c.in_ok-two.ensures block c.in_ok-leaf.ensures))) ∙ length-replicate 524288 block))
