@@ -198,6 +198,7 @@ impl Payload {
 
     /// Puts these bytes in the place of its own, and says whether it did. It does where nobody shares its memory, which has its bytes and
     /// no others, and these are as many. It takes no memory.
+    #[inline(always)]
     pub fn overwrite(&mut self, bytes: &[u8]) -> bool
         ensures taken { result ≡ true → self.new ≡ bytes.now }
         ensures left { result ≡ false → self.new ≡ self.old }

@@ -1,4 +1,4 @@
-ghost use Rattle.std.specs.Prelude.{◌≡◌, ◌+◌, ◌*◌, ◌^◌, ◌++◌, ◌<◌, ◌≤◌, IfOk, OnErr, OnOk, false, length, replicate, true};
+ghost use Rattle.std.specs.Prelude.{◌≡◌, ◌+◌, ◌*◌, ◌^◌, ◌++◌, ◌<◌, ◌≤◌, IfNone, IfOk, IfSome, OnErr, OnOk, false, length, replicate, true};
 ghost use Rattle.std.specs.Str.{bytes_eq};
 ghost use Rattle.nvm_record.specs.PayloadRef.{lent_bytes};
 ghost use Rattle.nvm_record.specs.declared.block.Block.TheVariants.{Uncorrectable};
@@ -184,14 +184,17 @@ impl Blocks {
     }
 
     /// Whether the bytes of the `count` blocks from place `at`, one block after the other, are exactly the
-    /// data. It takes no memory. A marked block has no bytes.
-    pub fn is_equal(&self, at: usize, count: usize, payload: &[u8]) -> bool
+    /// data. `None` if one of them is marked. It takes no memory.
+    #[inline(always)]
+    pub fn compare(&self, at: usize, count: usize, payload: &[u8]) -> Option<bool>
         requires { at + count ≤ length self.now }
-        ensures { result ≡ bytes_eq (medium.joined (stretch_of at count self.now)) payload.now }
+        ensures marked { IfNone result (medium.has_mark (stretch_of at count self.now) ≡ true) }
+        ensures same { IfSome result (λ same. (medium.has_mark (stretch_of at count self.now) ≡ false)
+            × (same ≡ bytes_eq (medium.joined (stretch_of at count self.now)) payload.now)) }
     {
         match &self.memory {
-            Memory::Shared(blocks) => blocks.is_equal(at, count, payload),
-            Memory::Own(blocks) => blocks.is_equal(at, count, payload),
+            Memory::Shared(blocks) => blocks.compare(at, count, payload),
+            Memory::Own(blocks) => blocks.compare(at, count, payload),
         }
     }
 

@@ -17,13 +17,14 @@ pub fn compare_range(unit: &UnitBlocks, first: u64, blocks: u32, payload: &[u8])
     ensures { (m : Medium) → Holds unit.now m
         → result ≡ step.comparison (range m first blocks) payload.now }
 {
-    if unit.has_mark(first, blocks) {
+    let Some(same) = unit.compare(first, blocks, payload) else {
         return Status::UNRECOVERED_READ_ERROR;
+    };
+    if same {
+        Status::SUCCESSFUL_COMPLETION
+    } else {
+        Status::COMPARE_FAILURE
     }
-    if !unit.is_equal(first, blocks, payload) {
-        return Status::COMPARE_FAILURE;
-    }
-    Status::SUCCESSFUL_COMPLETION
 }
 
 /// The statuses of a pair: the comparison's, and the Write's, which is aborted where the comparison

@@ -1,4 +1,4 @@
-ghost use Rattle.std.specs.Prelude.{◌≡◌, ◌↔◌, ◌+◌, ◌*◌, ◌^◌, ◌<◌, ◌≤◌, IfOk, IsTrue, OnErr, OnOk, false, length, true};
+ghost use Rattle.std.specs.Prelude.{◌≡◌, ◌↔◌, ◌+◌, ◌*◌, ◌^◌, ◌<◌, ◌≤◌, IfNone, IfOk, IfSome, IsTrue, OnErr, OnOk, false, length, true};
 ghost use Rattle.std.specs.Str.{bytes_eq};
 ghost use Rattle.nvm_record.specs.Medium as medium;
 ghost use Rattle.nvm_record.specs.Medium.{Medium, zero_medium, range};
@@ -288,15 +288,16 @@ impl UnitBlocks {
         self.blocks.has_mark(at, blocks as usize)
     }
 
-    /// Whether the bytes of the `blocks` LBAs from `first` are exactly the data. It takes no memory, and looks
-    /// at nothing past the first block that differs.
-    pub(crate) fn is_equal(&self, first: u64, blocks: u32, payload: &[u8]) -> bool
+    /// Whether the bytes of the `blocks` LBAs from `first` are exactly the data. `None` if one of them is marked. It takes no memory.
+    #[inline(always)]
+    pub(crate) fn compare(&self, first: u64, blocks: u32, payload: &[u8]) -> Option<bool>
         requires { IsWithin (place_of self.now) first blocks }
-        ensures { (m : Medium) → Holds self.now m
-            → result ≡ bytes_eq (medium.joined (range m first blocks)) payload.now }
+        ensures marked { (m : Medium) → Holds self.now m → IfNone result (medium.has_mark (range m first blocks) ≡ true) }
+        ensures same { (m : Medium) → Holds self.now m → IfSome result (λ same. (medium.has_mark (range m first blocks) ≡ false)
+            × (same ≡ bytes_eq (medium.joined (range m first blocks)) payload.now)) }
     {
         let at = (first - self.first) as usize;
-        self.blocks.is_equal(at, blocks as usize, payload)
+        self.blocks.compare(at, blocks as usize, payload)
     }
 
     /// The bytes of the `blocks` LBAs from `first`. Their room is reserved once.

@@ -1,4 +1,4 @@
-ghost use Rattle.std.specs.Prelude.{◌≡◌, ◌⊎◌, ◌+◌, ◌*◌, ◌++◌, ◌≤◌, [], IfOk, OnErr, OnOk, false, length, replicate};
+ghost use Rattle.std.specs.Prelude.{◌≡◌, ◌⊎◌, ◌+◌, ◌*◌, ◌++◌, ◌≤◌, [], IfNone, IfOk, IfSome, OnErr, OnOk, false, length, true, replicate};
 ghost use Rattle.std.specs.Str.{bytes_eq};
 ghost use Rattle.nvm_record.specs.Medium as medium;
 ghost use Rattle.nvm_record.specs.Step.{block_at};
@@ -130,9 +130,23 @@ impl OwnBlocks {
         false
     }
 
+    /// Whether the bytes of the `count` blocks from place `at` are exactly the data. It is never `None`, as of blocks of which one is marked.
+    #[inline(always)]
+    pub fn compare(&self, at: usize, count: usize, payload: &[u8]) -> Option<bool>
+        requires { at + count ≤ length self.now }
+        ensures marked { IfNone result (medium.has_mark (stretch_of at count self.now) ≡ true) }
+        ensures same { IfSome result (λ same. (medium.has_mark (stretch_of at count self.now) ≡ false)
+            × (same ≡ bytes_eq (medium.joined (stretch_of at count self.now)) payload.now)) }
+    {
+        if self.has_mark(at, count) {
+            return None;
+        }
+        Some(self.is_equal(at, count, payload))
+    }
+
     /// Whether the bytes of the `count` blocks from place `at` are exactly the data.
     #[inline(always)]
-    pub fn is_equal(&self, at: usize, count: usize, payload: &[u8]) -> bool
+    fn is_equal(&self, at: usize, count: usize, payload: &[u8]) -> bool
         requires { at + count ≤ length self.now }
         ensures { result ≡ bytes_eq (medium.joined (stretch_of at count self.now)) payload.now }
     {

@@ -1,4 +1,4 @@
-ghost use Rattle.std.specs.Prelude.{◌≡◌, ℕ, ◌+◌, ◌*◌, ◌++◌, ◌-◌, ◌<◌, ◌≤◌, IfOk, OnErr, OnOk, false, length, replicate, true};
+ghost use Rattle.std.specs.Prelude.{◌≡◌, ℕ, ◌+◌, ◌*◌, ◌++◌, ◌-◌, ◌<◌, ◌≤◌, IfNone, IfOk, IfSome, OnErr, OnOk, false, length, replicate, true};
 ghost use Rattle.std.specs.Str.{bytes_eq};
 ghost use Rattle.nvm_record.specs.declared.block.Block.TheVariants.{Bytes, Uncorrectable};
 ghost use Rattle.nvm_record.specs.Lists.{IsAt};
@@ -178,10 +178,39 @@ impl SharedBlocks {
         false
     }
 
+    /// Whether the bytes of the `count` blocks from place `at`, one block after the other, are exactly the data. `None` if one of them is marked.
+    /// It takes no memory. The way to one block is gone once.
+    #[inline(always)]
+    pub fn compare(&self, at: usize, count: usize, payload: &[u8]) -> Option<bool>
+        requires { at + count ≤ length self.now }
+        ensures marked { IfNone result (medium.has_mark (stretch_of at count self.now) ≡ true) }
+        ensures same { IfSome result (λ same. (medium.has_mark (stretch_of at count self.now) ≡ false)
+            × (same ≡ bytes_eq (medium.joined (stretch_of at count self.now)) payload.now)) }
+    {
+        if count == 1 {
+            return self.compare_one(at, payload);
+        }
+        if self.has_mark(at, count) {
+            return None;
+        }
+        Some(self.is_equal(at, count, payload))
+    }
+
+    /// Whether the bytes of the block at place `at` are exactly the data. `None` if it is marked.
+    #[inline(always)]
+    fn compare_one(&self, at: usize, payload: &[u8]) -> Option<bool>
+        requires { at + 1 ≤ length self.now }
+        ensures marked { IfNone result (medium.has_mark (stretch_of at 1 self.now) ≡ true) }
+        ensures same { IfSome result (λ same. (medium.has_mark (stretch_of at 1 self.now) ≡ false)
+            × (same ≡ bytes_eq (medium.joined (stretch_of at 1 self.now)) payload.now)) }
+    {
+        self.stretch(at, 1)[0].compare(payload)
+    }
+
     /// Whether the bytes of the `count` blocks from place `at`, one block after the other, are exactly the
     /// data. It takes no memory, and looks at nothing past the first block that differs. A marked block
     /// has no bytes.
-    pub fn is_equal(&self, at: usize, count: usize, payload: &[u8]) -> bool
+    fn is_equal(&self, at: usize, count: usize, payload: &[u8]) -> bool
         requires { at + count ≤ length self.now }
         ensures { result ≡ bytes_eq (medium.joined (stretch_of at count self.now)) payload.now }
     {

@@ -1,5 +1,6 @@
-ghost use Rattle.std.specs.Prelude.{◌≡◌, ◌++◌, ℕ, List, IfOk, IsTrue, OnOk, MatchOption, false, true, ◌↔◌, ◌+◌, ◌≤◌, length, replicate, take};
+ghost use Rattle.std.specs.Prelude.{◌≡◌, ◌++◌, ℕ, List, IfNone, IfOk, IfSome, IsTrue, OnOk, MatchOption, false, true, ◌↔◌, ◌+◌, ◌≤◌, length, replicate, take};
 ghost use Rattle.std.specs.Bool.{OnTrue};
+ghost use Rattle.std.specs.Str.{bytes_eq};
 ghost use Rattle.nvm_record.specs.declared.block.Block.TheVariants.{Bytes, Uncorrectable};
 ghost use Rattle.nvm_record.specs.Medium as medium;
 ghost use Rattle.nvm_record.specs.Medium.{bytes_of};
@@ -139,6 +140,19 @@ impl StoredBlock {
                 false
             }
             Content::Marked => true,
+        }
+    }
+
+    /// Whether its bytes are exactly the data. `None` if it is marked.
+    #[inline(always)]
+    pub fn compare(&self, payload: &[u8]) -> Option<bool>
+        ensures marked { IfNone result (medium.is_marked self.now ≡ true) }
+        ensures same { IfSome result (λ same. (medium.is_marked self.now ≡ false) × (same ≡ bytes_eq (bytes_of self.now) payload.now)) }
+    {
+        match &self.content {
+            Content::Zero { size } => Some(payload.len() == *size && are_zero(payload)),
+            Content::Data(own) => Some(are_equal(own.as_slice(), payload)),
+            Content::Marked => None,
         }
     }
 
