@@ -30,11 +30,7 @@ impl<T: Tree, const SPAN: usize> Model for Fork<T, SPAN> {
 
 impl<T: Tree, const SPAN: usize> Fork<T, SPAN> {
     /// A fork of `count` children, all of them this one node, which has `SPAN` blocks.
-    pub fn of(
-        alloc: Global,
-        node: Arc<T>,
-        count: usize,
-    ) -> Result<Arc<Fork<T, SPAN>>, NoMemory>
+    pub fn of(alloc: Global, node: Arc<T>, count: usize) -> Result<Arc<Fork<T, SPAN>>, NoMemory>
         requires some { 0 < SPAN }
         requires span { length (T.blocks (arc_value node)) ≡ SPAN }
         ensures { IfOk result (λ f. (block : Block) → T.blocks (arc_value node) ≡ replicate SPAN block

@@ -28,7 +28,9 @@ const WIDE: usize = 256;
 const FOUR: usize = 524_288;
 /// The most blocks of a tree of two, three and four levels: the top has as many children as these take, 65 and 257 and 513.
 const TWO_LEVELS: usize = 512;
+
 const THREE_LEVELS: usize = 32_768;
+
 const FOUR_LEVELS: usize = 1_048_576;
 
 /// The tree of some blocks, with as many levels as their number calls for. The top has as many children as it takes: 33 of four levels for 65,536 blocks,

@@ -273,6 +273,7 @@ impl SharedBlocks {
     }
 
     /// Whether the block at place `at` is marked. Else its bytes are in the buffer, which has room for exactly these.
+    #[inline(always)]
     fn read_one(&self, at: usize, buffer: &mut [u8]) -> bool
         requires range { at + 1 ≤ length self.now }
         requires room { medium.has_mark (stretch_of at 1 self.now) ≡ false

@@ -105,7 +105,6 @@ pub fn set_in<T: Tree>(
     }
 }
 
-
 /// Puts these bytes in the place of those of the node's block at place `at`, where nobody shares the node either.
 #[inline(always)]
 pub fn overwrite_in<T: Tree>(node: &mut Arc<T>, at: usize, bytes: &[u8]) -> bool
