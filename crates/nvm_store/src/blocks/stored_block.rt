@@ -8,7 +8,7 @@ ghost use Rattle.nvm_store.specs.Inside.Rewrite.{zero_block};
 
 use crate::blocks::content::Content;
 use nvm_record::{NoMemory, Payload, are_equal};
-use std::alloc::{AllocError, Global};
+use std::alloc::AllocError;
 use std::marker::Model;
 
 /// A block as a leaf keeps it. Its data is a payload, which may be shared.
