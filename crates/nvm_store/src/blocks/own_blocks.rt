@@ -1,4 +1,5 @@
-ghost use Rattle.std.specs.Prelude.{◌≡◌, ◌⊎◌, ◌+◌, ◌*◌, ◌++◌, ◌≤◌, [], IfNone, IfOk, IfSome, OnErr, OnOk, false, length, true, replicate};
+ghost use Rattle.std.specs.Prelude.{◌≡◌, ◌⊎◌, ◌+◌, ◌*◌, ◌++◌, ◌≤◌, ℕ, [], All, IfNone, IfOk, IfSome, List, MatchOption, OnErr, OnOk, false, length, replicate, take, true};
+ghost use Rattle.std.specs.Bool.{OnTrue};
 ghost use Rattle.std.specs.Str.{bytes_eq};
 ghost use Rattle.nvm_record.specs.Medium as medium;
 ghost use Rattle.nvm_record.specs.Step.{block_at};
@@ -7,7 +8,10 @@ ghost use Rattle.nvm_store.specs.Inside.Rewrite.{stretch_of, IsRewritten, zero_b
 ghost use Rattle.nvm_store.specs.Inside.Sound.{AreOfSize};
 
 use crate::blocks::shared_blocks::SharedBlocks;
-use crate::blocks::stored_block::{are_zero, push_zeroes, put_zeroes};
+use crate::blocks::stored_block::{
+    are_zero, behind_bytes, behind_zeroes, push_zeroes, put_bytes, put_zeroes,
+};
+use crate::blocks::stored_blocks::StoredBlocks;
 use nvm_record::{NoMemory, PayloadRef, are_equal};
 use std::alloc::Global;
 use std::marker::Model;
@@ -71,7 +75,7 @@ impl OwnBlocks {
     pub fn shared(&self, alloc: Global) -> Result<SharedBlocks, NoMemory>
         ensures { IfOk result (λ blocks. blocks ≡ self.now) }
     {
-        let mut blocks = SharedBlocks::zeroed(alloc, self.count, self.size)?;
+        let mut blocks = SharedBlocks::zeroed(alloc, self.count, self.size, false)?;
         if self.bytes.is_empty() {
             return Ok(blocks);
         }
@@ -122,15 +126,14 @@ impl OwnBlocks {
     #[inline(always)]
     pub fn has_mark(&self, at: usize, count: usize) -> bool
         requires { at + count ≤ length self.now }
-        ensures is { result ≡ medium.has_mark (stretch_of at count self.now) }
-        ensures none { result ≡ false }
+        ensures { result ≡ medium.has_mark (stretch_of at count self.now) }
     {
         // For the proof alone: each of them is cut from the bytes.
         let _count = self.count;
         false
     }
 
-    /// Whether the bytes of the `count` blocks from place `at` are exactly the data. It is never `None`, as of blocks of which one is marked.
+    /// Whether the bytes of the `count` blocks from place `at` are exactly the data. It is never `None`, since none of them is marked.
     #[inline(always)]
     pub fn compare(&self, at: usize, count: usize, payload: &[u8]) -> Option<bool>
         requires { at + count ≤ length self.now }
@@ -174,34 +177,104 @@ impl OwnBlocks {
         bytes.extend_from_slice(&self.bytes[from..from + len])
     }
 
-    /// Puts the bytes of the `count` blocks from place `at` into the buffer, which has room for exactly these, and says that none of them is marked.
+    /// Whether one of the `count` blocks from place `at` is marked: none is. Their bytes are in the buffer then, which has room for exactly these.
     #[inline(always)]
     pub fn read_into(&self, at: usize, count: usize, buffer: &mut [u8]) -> bool
         requires range { at + count ≤ length self.now }
         requires room { medium.has_mark (stretch_of at count self.now) ≡ false
             → length buffer.old ≡ length (medium.joined (stretch_of at count self.now)) }
         ensures marked { result ≡ medium.has_mark (stretch_of at count self.now) }
-        ensures read { buffer.new ≡ medium.joined (stretch_of at count self.now) }
-        ensures none { result ≡ false }
+        ensures read { result ≡ false → buffer.new ≡ medium.joined (stretch_of at count self.now) }
+        ensures left { result ≡ true → buffer.new ≡ buffer.old }
     {
-        let marked = self.has_mark(at, count);
-        self.copy_to(at, count, buffer);
-        marked
+        if self.has_mark(at, count) {
+            return true;
+        }
+        self.copy_to(at, count, buffer, 0);
+        false
     }
 
-    /// Puts the bytes of the `count` blocks from place `at` into the buffer, which has room for exactly these.
+    /// Puts the bytes of the `count` blocks from place `at` into the buffer from place `from` on, and answers where they end.
     #[inline(always)]
-    fn copy_to(&self, at: usize, count: usize, buffer: &mut [u8])
+    pub fn copy_to(&self, at: usize, count: usize, buffer: &mut [u8], from: usize) -> usize
         requires range { at + count ≤ length self.now }
-        requires room { length buffer.old ≡ length (medium.joined (stretch_of at count self.now)) }
-        ensures { buffer.new ≡ medium.joined (stretch_of at count self.now) }
+        requires room { from + length (medium.joined (stretch_of at count self.now)) ≤ length buffer.old }
+        ensures to { result ≡ from + length (medium.joined (stretch_of at count self.now)) }
+        ensures put { take result buffer.new ≡ take from buffer.old ++ medium.joined (stretch_of at count self.now) }
     {
-        let (from, len) = bytes_of(self.count, self.size, at, count);
+        let (start, len) = bytes_of(self.count, self.size, at, count);
         if self.bytes.is_empty() {
-            put_zeroes(buffer, 0, len);
-            return;
+            return put_zeroes(buffer, from, len);
         }
-        buffer.copy_from_slice(&self.bytes[from..from + len]);
+        put_bytes(buffer, from, &self.bytes[start..start + len])
+    }
+
+    /// The data after the bytes of the `count` blocks from place `at`, or `None` where it doesn't begin with them.
+    pub fn behind<'a>(&self, at: usize, count: usize, payload: &'a [u8]) -> Option<&'a [u8]>
+        requires { at + count ≤ length self.now }
+        ensures { MatchOption result
+            ((rest : List ℕ) → medium.joined (stretch_of at count self.now) ++ rest ≡ payload.now → ⊥)
+            (λ rest. medium.joined (stretch_of at count self.now) ++ rest.now ≡ payload.now) }
+    {
+        let (start, len) = bytes_of(self.count, self.size, at, count);
+        if self.bytes.is_empty() {
+            return behind_zeroes(len, payload);
+        }
+        behind_bytes(&self.bytes[start..start + len], payload)
+    }
+
+    /// Whether the `count` blocks from place `at` are kept as `size` zero bytes each, which takes no memory.
+    pub fn are_kept_as_zero(&self, at: usize, count: usize, size: usize) -> bool
+        requires { at + count ≤ length self.now }
+        ensures { OnTrue result (All (λ block. block ≡ zero_block size) (stretch_of at count self.now)) }
+    {
+        if self.size != size {
+            return false;
+        }
+        self.bytes.is_empty()
+    }
+
+    /// Whether this is the size of each block.
+    #[inline(always)]
+    pub fn has_size(&self, size: usize) -> bool
+        ensures { OnTrue result (AreOfSize size self.now) }
+    {
+        if self.size != size {
+            return false;
+        }
+        true
+    }
+
+    /// Puts the data in the place of the bytes of the `count` blocks from place `at`, and says whether it did. It does where they have this size, and memory.
+    #[inline(always)]
+    pub fn overwrite(&mut self, at: usize, count: usize, size: usize, payload: &[u8]) -> bool
+        requires at { at ≤ length self.old }
+        requires payload { length payload.now ≡ count * size }
+        ensures taken { result ≡ true → IsRewritten at count (block_at size payload.now) self.old self.new }
+        ensures left { result ≡ false → self.new ≡ self.old }
+    {
+        if size != self.size {
+            return false;
+        }
+        if self.bytes.is_empty() {
+            return false;
+        }
+        if count > self.count - at {
+            return false;
+        }
+        let (from, _len) = bytes_of(self.count, self.size, at, count);
+        put(&mut self.bytes, from, payload);
+        true
+    }
+
+    /// The same blocks, each kept by itself.
+    pub fn stored(&self, alloc: Global) -> Result<StoredBlocks, NoMemory>
+        ensures { IfOk result (λ blocks. blocks ≡ self.now) }
+    {
+        if self.bytes.is_empty() {
+            return StoredBlocks::zeroed(alloc, self.count, self.size);
+        }
+        StoredBlocks::of_bytes(alloc, self.count, self.size, &self.bytes)
     }
 }
 

@@ -1,5 +1,5 @@
 ghost use Rattle.std.specs.Prelude.{◌≡◌, ℕ, ◌+◌, ◌*◌, ◌-◌, ◌<◌, ◌≤◌, IfOk, OnErr, OnOk, false, length, replicate, true};
-ghost use Rattle.nvm_record.specs.declared.block.Block.TheVariants.{Bytes, Uncorrectable};
+ghost use Rattle.nvm_record.specs.declared.block.Block.TheVariants.{Uncorrectable};
 ghost use Rattle.nvm_record.specs.Lists.{IsAt};
 ghost use Rattle.nvm_record.specs.PayloadRef.{lent_bytes};
 ghost use Rattle.nvm_record.specs.Step.{block_at};
@@ -10,7 +10,6 @@ mod reading;
 
 use crate::blocks::levels::{LEAF, Levels};
 use crate::blocks::source::Source;
-use crate::blocks::stretches;
 use nvm_record::{NoMemory, PayloadRef};
 use std::alloc::Global;
 use std::fmt;
@@ -48,12 +47,17 @@ impl Debug for SharedBlocks {
 }
 
 impl SharedBlocks {
-    /// `count` blocks of `size` zero bytes. They share one leaf, so they take the memory of one path of the
-    /// tree.
-    pub fn zeroed(alloc: Global, count: usize, size: usize) -> Result<SharedBlocks, NoMemory>
+    /// `count` blocks of `size` zero bytes, in pages if that is asked for and they are small enough. They share one leaf, so they take the memory of
+    /// one path of the tree.
+    pub fn zeroed(
+        alloc: Global,
+        count: usize,
+        size: usize,
+        pages: bool,
+    ) -> Result<SharedBlocks, NoMemory>
         ensures { IfOk result (λ blocks. blocks ≡ replicate count (zero_block size)) }
     {
-        let levels = Levels::zeroed(alloc, count, size)?;
+        let levels = Levels::zeroed(alloc, count, size, pages)?;
         Ok(SharedBlocks { levels, count })
     }
 
@@ -92,7 +96,10 @@ impl SharedBlocks {
         ensures ok { OnOk result (IsRewritten at count (block_at size (lent_bytes payload.entry)) self.old self.new) }
         ensures err { OnErr result (self.new ≡ self.old) }
     {
-        if count == 1 && !payload.is_shared() && self.overwrite(at, payload.as_slice()) {
+        if count > 0
+            && !payload.is_shared()
+            && self.overwrite(at, count, size, payload.as_slice())
+        {
             return Ok(());
         }
         self.put_data(alloc, at, count, size, payload)
@@ -114,7 +121,7 @@ impl SharedBlocks {
         ensures err { OnErr result (self.new ≡ self.old) }
     {
         if count == 1 {
-            return self.set(alloc, at, &Source::Data { size, payload });
+            return self.fill(alloc, at, 1, &Source::Data { size, payload });
         }
         let copy = if payload.is_shared() {
             None
@@ -169,32 +176,24 @@ impl SharedBlocks {
             return 0;
         };
         let stretch = self.stretch(from, most);
-        if stretches::are_kept_as_zero(stretch, size) {
-            stretch.len()
+        if stretch.leaf.are_kept_as_zero(stretch.at, stretch.len, size) {
+            stretch.len
         } else {
             0
         }
     }
 
-    /// Puts these bytes in the place of those of the block at place `at`, and says whether it did. It does where nobody shares its memory or its way
-    /// in the tree, and it has as many.
+    /// Overwrites the bytes of the `count` blocks from place `at` with the data, and says whether it did. It does where they are in one leaf and have this
+    /// size, and nobody shares their bytes or a node on the way to them.
     #[inline(always)]
-    fn overwrite(&mut self, at: usize, bytes: &[u8]) -> bool
-        requires { at < length self.old }
-        ensures taken { result ≡ true → IsRewritten at 1 (λ _. Bytes bytes.now) self.old self.new }
+    fn overwrite(&mut self, at: usize, count: usize, size: usize, payload: &[u8]) -> bool
+        requires some { 0 < count }
+        requires range { at + count ≤ length self.old }
+        requires payload { length payload.now ≡ count * size }
+        ensures taken { result ≡ true → IsRewritten at count (block_at size payload.now) self.old self.new }
         ensures left { result ≡ false → self.new ≡ self.old }
     {
-        self.levels.overwrite(at, bytes)
-    }
-
-    /// Puts the source's first block at place `at`.
-    fn set(&mut self, alloc: Global, at: usize, source: &Source<'_>) -> Result<(), NoMemory>
-        requires range { at < length self.old }
-        requires source { HasBlocks source.now 1 }
-        ensures ok { OnOk result (IsRewritten at 1 (source_block source.now) self.old self.new) }
-        ensures err { OnErr result (self.new ≡ self.old) }
-    {
-        self.levels.set(alloc, at, source)
+        self.levels.overwrite(at, count, size, payload)
     }
 
     /// Puts the source's blocks from place `from` up to place `to` at the places from `at` on, as far as
@@ -235,9 +234,6 @@ impl SharedBlocks {
         ensures ok { OnOk result (IsRewritten at count (source_block source.now) self.old self.new) }
         ensures err { OnErr result (self.new ≡ self.old) }
     {
-        if count == 1 {
-            return self.set(alloc, at, source);
-        }
         if count > 0 && count <= LEAF - at % LEAF {
             let done = self.fill_stretch(alloc, at, 0, count, count, source)?;
             if done > 0 {
