@@ -23,17 +23,17 @@ const TWO: usize = 128;
 const THREE: usize = 2_048;
 /// How many children a fork over forks of [`THREE`] has that isn't the top.
 const WIDE: usize = 256;
-/// The blocks of such a fork.
+/// The blocks of a fork over forks of [`THREE`] that isn't the top.
 const FOUR: usize = 524_288;
-/// The most blocks of a tree of two, three and four levels: the top has as many children as these take, 65 and 257 and 513.
+/// The most blocks of a tree of two levels, whose top has up to 65 children.
 const TWO_LEVELS: usize = 512;
-
+/// The most blocks of a tree of three levels, whose top has up to 257 children.
 const THREE_LEVELS: usize = 32_768;
-
+/// The most blocks of a tree of four levels, whose top has up to 513 children.
 const FOUR_LEVELS: usize = 1_048_576;
 
-/// The tree of some blocks, with as many levels as their number calls for. The top has as many children as it takes: 33 of four levels for 65,536 blocks,
-/// and 513 of five for 2^28.
+/// The tree of some blocks, with as many levels as their number calls for. The top has one child more than its blocks fill: 33 of four levels for 65,536
+/// blocks, and 513 of five for 2^28.
 #[derive(Drop)]
 pub enum Levels {
     One(Arc<Leaf>),

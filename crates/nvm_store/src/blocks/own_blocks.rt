@@ -245,7 +245,8 @@ impl OwnBlocks {
         true
     }
 
-    /// Puts the data in the place of the bytes of the `count` blocks from place `at`, and says whether it did. It does where they have this size, and memory.
+    /// Overwrites the bytes of the `count` blocks from place `at` with the data, and says whether it did. It does where there are so many of this size, and
+    /// their bytes are kept.
     #[inline(always)]
     pub fn overwrite(&mut self, at: usize, count: usize, size: usize, payload: &[u8]) -> bool
         requires at { at ≤ length self.old }
@@ -262,8 +263,8 @@ impl OwnBlocks {
         if count > self.count - at {
             return false;
         }
-        let (from, _len) = bytes_of(self.count, self.size, at, count);
-        put(&mut self.bytes, from, payload);
+        let (start, _len) = bytes_of(self.count, self.size, at, count);
+        put(&mut self.bytes, start, payload);
         true
     }
 

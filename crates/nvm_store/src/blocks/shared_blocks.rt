@@ -80,8 +80,8 @@ impl SharedBlocks {
         })
     }
 
-    /// The `count` blocks from place `at` take the data, in blocks of `size` bytes. They share it, if it is shared. Else one that is alone
-    /// takes it into its own memory if it can, and several share a copy.
+    /// The `count` blocks from place `at` take the data, in blocks of `size` bytes. They share it, if it is shared. Else those of one leaf
+    /// take it into their own memory if they can, and others share a copy.
     #[inline(always)]
     pub fn write(
         &mut self,
@@ -105,7 +105,8 @@ impl SharedBlocks {
         self.put_data(alloc, at, count, size, payload)
     }
 
-    /// The `count` blocks from place `at` take a share of the data, or of a copy.
+    /// The `count` blocks from place `at` take a share of the data, one a copy of what nobody shares, and several a share of a copy. It is apart from
+    /// `write`, which is small where it is called.
     #[inline(never)]
     fn put_data(
         &mut self,
@@ -220,7 +221,7 @@ impl SharedBlocks {
 
     /// The `count` blocks from place `at` become the source's.
     ///
-    /// One block is put in place, and so are several of one leaf. Those of several leaves are put into a shared
+    /// Blocks of one leaf are put in place. Those of several leaves are put into a shared
     /// copy, which copies each node of their ways once, and takes this one's place where nothing was refused.
     fn fill(
         &mut self,

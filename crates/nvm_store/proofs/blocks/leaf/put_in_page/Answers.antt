@@ -1,8 +1,6 @@
-use Rattle.std.proofs.Common.{ℕ, ◌+◌, ◌*◌, List, ap, subst, sym, ◌∙◌}
+use Rattle.std.proofs.Common.{ℕ, ◌+◌, List, ap, ◌∙◌}
 use Rattle.nvm_record.specs.PayloadRef.{lent_bytes}
 use Rattle.nvm_record.specs.Step.{block_at}
-use Rattle.nvm_store.specs.Inside.Rewrite.{IsRewritten}
-use Rattle.nvm_store.specs.Inside.Source.{source_block}
 use Rattle.nvm_store.proofs.OwnBytes.{block_of_part}
 use Rattle.nvm_store.proofs.Rewrites.{rewritten_same}
 use Rattle.nvm_store.proofs.blocks.leaf.put_in_page.Goals as goal

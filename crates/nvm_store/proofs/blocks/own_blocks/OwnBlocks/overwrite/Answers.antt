@@ -1,4 +1,4 @@
-use Rattle.std.proofs.Common.{◌≡◌, ℕ, ◌+◌, ◌-◌, ◌*◌, ◌≤◌, List, length, vec_len, sym, ap, subst, ◌∙◌, arith, inr}
+use Rattle.std.proofs.Common.{◌≡◌, ℕ, ◌+◌, ◌*◌, ◌≤◌, List, length, vec_len, sym, ap, subst, ◌∙◌, arith, inr}
 use Rattle.std.proofs.lemmas.Bool.{eqb-false}
 use Rattle.nvm_record.specs.Step.{block_at}
 use Rattle.nvm_store.specs.Inside.Own.{cut, kept_bytes, with_bytes}
@@ -11,8 +11,8 @@ overflow_sub-self-inside c =
     let own = c.self.inside in
     within_own own.count own.size (kept_bytes (own.count * own.size) own.bytes.items) c.args.self.now c.args.at c.self.view_is c.requires.at
 
-pub bytes_of-from-requires-clause-range : goal.bytes_of-from-requires-clause-range
-bytes_of-from-requires-clause-range c =
+pub bytes_of-start-requires-clause-range : goal.bytes_of-start-requires-clause-range
+bytes_of-start-requires-clause-range c =
     let own = c.self.inside in
     let at = within_own own.count own.size (kept_bytes (own.count * own.size) own.bytes.items) c.args.self.now c.args.at c.self.view_is c.requires.at in
     omega (arith, at, c.if-count-self.false)
@@ -25,7 +25,7 @@ put-requires c =
     let kept : kept_bytes all own.bytes.items ≡ own.bytes.items = all_kept all own.bytes.items c.self.invariant.whole (λ none. some (omega (arith, none))) in
     let whole : length own.bytes.items ≡ all = ap length (sym kept) ∙ length_kept all own.bytes.items c.self.invariant.whole in
     let same : c.args.count * c.args.size ≡ c.args.count * own.size = ap (λ (k : ℕ). c.args.count * k) c.if-size-self.false in
-    omega (arith, whole, same, c.requires.payload, c.bytes_of-from.ensures.len, c.bytes_of-from.ensures.within)
+    omega (arith, whole, same, c.requires.payload, c.bytes_of-start.ensures.len, c.bytes_of-start.ensures.within)
 
 pub invariant_of-self : goal.invariant_of-self
 invariant_of-self c =
@@ -40,8 +40,8 @@ invariant_of-self c =
       whole =
           inr
           (ap length c.put.ensures
-          ∙ length_with_bytes c.bytes_of-from.result.0 c.args.payload.now own.bytes.items
-          (omega (arith, whole, same, c.requires.payload, c.bytes_of-from.ensures.len, c.bytes_of-from.ensures.within)) ∙ whole);
+          ∙ length_with_bytes c.bytes_of-start.result.0 c.args.payload.now own.bytes.items
+          (omega (arith, whole, same, c.requires.payload, c.bytes_of-start.ensures.len, c.bytes_of-start.ensures.within)) ∙ whole);
     }
 
 pub returns-clause-taken : goal.returns-clause-taken
@@ -62,7 +62,7 @@ returns-clause-taken c taken =
     let span = span_within own.count own.size at count within in
     let is : c.put.new.bytes.items ≡ with_bytes (at * own.size) payload old =
     c.put.ensures
-    ∙ ap (λ (f : ℕ). with_bytes f payload own.bytes.items) c.bytes_of-from.ensures.from
+    ∙ ap (λ (f : ℕ). with_bytes f payload own.bytes.items) c.bytes_of-start.ensures.from
     ∙ ap (λ (l : List ℕ). with_bytes (at * own.size) payload l) (sym kept) in
     let new : length c.put.new.bytes.items ≡ all =
     ap length is ∙ length_with_bytes (at * own.size) payload old (omega (arith, whole, len, span)) ∙ whole in

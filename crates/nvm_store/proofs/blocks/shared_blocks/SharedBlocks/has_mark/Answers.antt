@@ -1,4 +1,4 @@
-use Rattle.std.proofs.Common.{◌+◌, ◌-◌, Bool, ◌||◌, length, sym, ap, ◌∙◌, arith}
+use Rattle.std.proofs.Common.{◌+◌, ◌-◌, Bool, ◌||◌, sym, ap, ◌∙◌, arith}
 use Rattle.nvm_record.specs.Medium as medium
 use Rattle.nvm_store.specs.Inside.Rewrite.{stretch_of}
 use Rattle.nvm_store.proofs.Stretches.{next_stretch, has_mark-append}

@@ -1,4 +1,4 @@
-use Rattle.std.proofs.Common.{◌+◌, ◌-◌, ◌++◌, List, ℕ, append_assoc, length, sym, ap, ◌∙◌, arith}
+use Rattle.std.proofs.Common.{◌+◌, ◌-◌, ◌++◌, List, ℕ, append_assoc, sym, ap, ◌∙◌, arith}
 use Rattle.nvm_record.specs.Medium.{joined}
 use Rattle.nvm_store.specs.Inside.Rewrite.{stretch_of}
 use Rattle.nvm_store.proofs.Stretches.{joined_stretches}

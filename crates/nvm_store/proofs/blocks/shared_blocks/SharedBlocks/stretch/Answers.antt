@@ -1,4 +1,4 @@
-use Rattle.std.proofs.Common.{drop, arith}
+use Rattle.std.proofs.Common.{arith}
 use Rattle.std.proofs.lemmas.List.{length-take-le, length-drop}
 use Rattle.nvm_store.specs.Inside.Levels.{blocks_of}
 use Rattle.nvm_store.proofs.Stretches.{front_of_leaf}

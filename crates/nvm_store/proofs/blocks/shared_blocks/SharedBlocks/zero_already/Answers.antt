@@ -1,5 +1,4 @@
-use Rattle.std.proofs.Common.{◌<◌, length, arith, ◌∙◌}
-use Rattle.std.proofs.lemmas.List.{length-take-le}
+use Rattle.std.proofs.Common.{arith}
 use Rattle.nvm_store.specs.Inside.Rewrite.{stretch_of, zero_block}
 use Rattle.nvm_store.proofs.Stretches.{at_stretch_of_one, length-stretch_of}
 use Rattle.nvm_store.proofs.blocks.shared_blocks.SharedBlocks.zero_already.Goals as goal

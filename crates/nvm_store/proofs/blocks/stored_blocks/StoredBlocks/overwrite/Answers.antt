@@ -1,4 +1,4 @@
-use Rattle.std.proofs.Common.{◌≡◌, ap, sym, ◌∙◌, arith}
+use Rattle.std.proofs.Common.{ap, sym, ◌∙◌, arith}
 use Rattle.std.proofs.Math.ListN.{set}
 use Rattle.nvm_record.specs.declared.block.Block.{Block}
 use Rattle.nvm_record.specs.Step.{block_at}
