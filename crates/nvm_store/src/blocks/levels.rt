@@ -1,8 +1,8 @@
-ghost use Rattle.std.specs.Prelude.{◌≡◌, ◌*◌, ◌<◌, ◌^◌, IfOk, OnErr, OnOk, drop, false, length, slice_set, true};
+ghost use Rattle.std.specs.Prelude.{◌≡◌, ◌*◌, ◌<◌, ◌^◌, IfOk, OnErr, drop, false, length, true};
 ghost use Rattle.nvm_record.specs.Step.{block_at};
 ghost use Rattle.nvm_store.specs.Inside.Rewrite.{IsRewritten, zero_block};
 ghost use Rattle.nvm_store.specs.Inside.Levels.{AreAll, blocks_of};
-ghost use Rattle.nvm_store.specs.Inside.Source.{HasBlocks, IsFilled, source_block};
+ghost use Rattle.nvm_store.specs.Inside.Source.{HasBlocks, IsFilled};
 ghost use Rattle.nvm_store.specs.Inside.Tree.{IsStretch};
 
 use crate::blocks::fork::Fork;

@@ -1,9 +1,9 @@
-ghost use Rattle.std.specs.Prelude.{◌≡◌, ◌*◌, ◌<◌, List, drop, length, IfOk, OnOk, OnErr, false, slice_set, true};
+ghost use Rattle.std.specs.Prelude.{◌≡◌, ◌*◌, ◌<◌, List, drop, length, IfOk, OnErr, false, true};
 ghost use Rattle.std.specs.Arc.{arc_value};
 ghost use Rattle.nvm_record.specs.declared.block.Block.{Block};
 ghost use Rattle.nvm_record.specs.Step.{block_at};
 ghost use Rattle.nvm_store.specs.Inside.Rewrite.{IsRewritten};
-ghost use Rattle.nvm_store.specs.Inside.Source.{HasBlocks, IsFilled, source_block};
+ghost use Rattle.nvm_store.specs.Inside.Source.{HasBlocks, IsFilled};
 ghost use Rattle.nvm_store.specs.Inside.Tree.{IsStretch};
 
 use crate::blocks::leaf::Leaf;
