@@ -85,7 +85,7 @@ impl Leaf {
         }
     }
 
-    /// Whether the `count` blocks from place `at` are kept as `size` zero bytes each, which takes no memory.
+    /// Whether the `count` blocks from place `at` are `size` zero bytes each as they are kept, so that nothing is left to zero.
     pub fn are_kept_as_zero(&self, at: usize, count: usize, size: usize) -> bool
         requires { at + count ≤ length self.now }
         ensures { OnTrue result (All (λ block. block ≡ zero_block size) (stretch_of at count self.now)) }

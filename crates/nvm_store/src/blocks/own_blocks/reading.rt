@@ -113,7 +113,7 @@ impl OwnBlocks {
         behind_bytes(&self.bytes[start..start + len], payload)
     }
 
-    /// Whether the `count` blocks from place `at` are kept as `size` zero bytes each, which takes no memory.
+    /// Whether the `count` blocks from place `at` are `size` zero bytes each as they are kept.
     pub fn are_kept_as_zero(&self, at: usize, count: usize, size: usize) -> bool
         requires { at + count ≤ length self.now }
         ensures { OnTrue result (All (λ block. block ≡ zero_block size) (stretch_of at count self.now)) }
@@ -121,6 +121,10 @@ impl OwnBlocks {
         if self.size != size {
             return false;
         }
-        self.bytes.is_empty()
+        if self.bytes.is_empty() {
+            return true;
+        }
+        let (start, len) = bytes_of(self.count, self.size, at, count);
+        are_zero(&self.bytes[start..start + len])
     }
 }
