@@ -140,19 +140,16 @@ uint32_t zk_version(void);
  *   - A region of at most 65,536 bytes, without `versions`, is one piece of memory, which its first Write takes and a Write
  *     Zeroes or Deallocate of all its blocks gives back. A first Write Uncorrectable makes it a tree for good; the piece stays
  *     until each of its blocks was changed again.
- *   - Any other region is a tree, by eight blocks. Without `versions`, eight of 512 bytes are a page: one piece of memory, which
- *     the first Write to one of them takes, also where that is of one block, and a Write Zeroes or Deallocate of all of them gives
- *     back. A Write Uncorrectable keeps its eight each by itself from then on.
- *   - Else the data of a Write stays until each of its blocks was changed again: at worst each block holds the longest Write that
- *     you submit. A Write Zeroes or Deallocate takes no memory for eight of which it changes none that was written, and leaves
- *     some 50 bytes a block where one was. A command that changes several blocks, in a tree by pages one that changes blocks of
- *     several pages, makes them anew, and copies up to 7 KiB of the tree; with `versions` one that changes a block may, too.
+ *   - Any other region is a tree, by eight blocks. The data of a Write stays until each of its blocks was changed again: at worst
+ *     each block holds the longest Write that you submit. A Write Zeroes or Deallocate takes no memory for eight of which it
+ *     changes none that was written, and leaves some 50 bytes a block where one was. A command that changes several blocks makes
+ *     some 50 bytes for each anew, and copies up to 7 KiB of the tree; with `versions` one that changes a block may, too.
  *   - With ZK_NO_LIMIT a port keeps, until zk_close, room for the longest data of a Write or Compare in one unit that it was
  *     given, and of a pair's Compare too: a command that has to wait for its region keeps its data there.
  *   - With ZK_NO_LIMIT and without `versions`, these take none beyond that if they lie in one unit: a Read, whose blocks go
- *     straight into `data`, and a Compare; a Write, Write Zeroes or pair in a region of one piece, or in a page that was written;
- *     and else in a tree one of one block, where that holds the data of a Write of one block. A command in several units takes
- *     some, and one with data that a check refuses.
+ *     straight into `data`, and a Compare; a Write, Write Zeroes or pair in a region of one piece; and in a tree one of one
+ *     block, where that holds the data of a Write of one block. A command in several units takes some, and one with data that a
+ *     check refuses.
  *
  * ZK_DONE; or ZK_IS_OPEN, ZK_BAD_PORTS, ZK_BAD_NAMESPACE, ZK_BAD_LIMIT or ZK_NO_MEMORY, tried in this order.
  * Threads: nobody else uses these ports during the call. */

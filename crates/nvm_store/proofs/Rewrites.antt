@@ -95,15 +95,6 @@ rewritten_more at i place news old mid new so_far here below put = record {
 pub rewritten_none : (at : ℕ) (news : ℕ → Block) (old : List Block) → IsRewritten at 0 news old old
 rewritten_none at news old = record { len = refl; rewritten = λ j lt. absurd (omega arith); others = λ j block out is. is }
 
--- What is new may be said otherwise.
-pub rewritten_same : (at n : ℕ) (news others : ℕ → Block) (old new : List Block) → ((i : ℕ) → i < n → news i ≡ others i)
-    → IsRewritten at n news old new → IsRewritten at n others old new
-rewritten_same at n news others old new same put = record {
-  len = put.len;
-  rewritten = λ i lt. subst (λ (b : Block). IsAt new (at + i) b) (same i lt) (put.rewritten i lt);
-  others = put.others;
-}
-
 -- Some more blocks are put after those that are already new.
 pub rewritten_on : (at i n place : ℕ) (news : ℕ → Block) (old mid new : List Block) → IsRewritten at i news old mid → place ≡ at + i
     → IsRewritten place n (λ j. news (i + j)) mid new → IsRewritten at (i + n) news old new
