@@ -3,12 +3,12 @@
  *
  *     large [SEED] [--times]
  *     large --memory [--blocks N]
- *     large --count N [--of writes|reads|pairs] [--nsze N]
+ *     large --count N [--of writes|reads|pairs] [--nsze N] [--blocks N]
  *
  * Inside, a large namespace has up to 4,096 regions of whole atomic units, so windows lie around the first LBAs of regions, and at both ends. What
  * lies beside a window must stay zeroes. With --times it tells on standard error how long it takes to open and close, and how much is resident then.
  * With --memory it only writes 100 MB, in commands of N blocks that are spread over 2^31 blocks, and prints the resident memory; with --count it only
- * does so many commands of one block at 1,000 LBAs, for a profiler. It ends with 1 at the first wrong answer, and says what is wrong with it. */
+ * does so many commands of N blocks within units of 8 at 1,000 LBAs, for a profiler. It ends with 1 at the first wrong answer, and says what is wrong with it. */
 #include <sched.h>
 #include <stdarg.h>
 #include <stdbool.h>
@@ -685,20 +685,21 @@ static void show_memory(uint32_t blocks)
            (unsigned long long)count, blocks, (unsigned long long)count * blocks * 512, before, after, zeroed, resident_bytes());
 }
 
-/* Does so many commands of one block at 1,000 LBAs, of which each was written before. */
-static void do_commands(uint64_t count, const char *of, uint64_t nsze)
+/* Does so many commands of up to 8 blocks at 1,000 LBAs, each within a unit that was written before. */
+static void do_commands(uint64_t count, const char *of, uint64_t nsze, uint32_t blocks)
 {
-    enum { LBAS = 1000 };
+    enum { LBAS = 1000, UNIT = 8 };
+    const size_t length = (size_t)blocks * 512;
     static uint64_t lbas[LBAS], numbers[LBAS];
     uint8_t entries[2 * ZK_ENTRY_BYTES], told[2 * ZK_COMPLETION_BYTES];
     ns = (struct zk_namespace) { nsze, 512, 7, 0, 7, 7 };
     MUST(zk_open(ports, 1, &ns, ZK_NO_LIMIT, false) == ZK_DONE);
     memset(given, 0x5a, DATA);
     for (int i = 0; i < LBAS; i++) {
-        lbas[i] = nsze / LBAS * (uint64_t)i + below(nsze / LBAS);
-        entry_of(entries, WRITE, 0, 1, lbas[i], 1);
+        lbas[i] = (nsze / LBAS * (uint64_t)i + below(nsze / LBAS - UNIT)) / UNIT * UNIT + below(UNIT + 1 - blocks);
+        entry_of(entries, WRITE, 0, 1, lbas[i], blocks);
         put_little(given, 8, 0);
-        MUST(zk_submit(ports, entries, ZK_ENTRY_BYTES, given, 512, told, ZK_COMPLETION_BYTES) == ZK_DONE && status_of(told) == 0);
+        MUST(zk_submit(ports, entries, ZK_ENTRY_BYTES, given, length, told, ZK_COMPLETION_BYTES) == ZK_DONE && status_of(told) == 0);
     }
     for (int kind = 0; kind < 3; kind++) {
         static const char *const names[] = { "writes", "reads", "pairs" };
@@ -709,22 +710,22 @@ static void do_commands(uint64_t count, const char *of, uint64_t nsze)
             put_little(given, 8, numbers[at]);
             if (kind == 0) {
                 put_little(given, 8, ++numbers[at]);
-                entry_of(entries, WRITE, 0, 1, lbas[at], 1);
-                MUST(zk_submit(ports, entries, ZK_ENTRY_BYTES, given, 512, told, ZK_COMPLETION_BYTES) == ZK_DONE);
+                entry_of(entries, WRITE, 0, 1, lbas[at], blocks);
+                MUST(zk_submit(ports, entries, ZK_ENTRY_BYTES, given, length, told, ZK_COMPLETION_BYTES) == ZK_DONE);
             } else if (kind == 1) {
-                entry_of(entries, READ, 0, 1, lbas[at], 1);
-                MUST(zk_submit(ports, entries, ZK_ENTRY_BYTES, given, 512, told, ZK_COMPLETION_BYTES) == ZK_DONE);
+                entry_of(entries, READ, 0, 1, lbas[at], blocks);
+                MUST(zk_submit(ports, entries, ZK_ENTRY_BYTES, given, length, told, ZK_COMPLETION_BYTES) == ZK_DONE);
                 MUST(little(given, 8) == numbers[at]);
             } else {
-                put_little(given + 512, 8, ++numbers[at]);
-                entry_of(entries, COMPARE, FUSED_FIRST, 1, lbas[at], 1);
-                entry_of(entries + ZK_ENTRY_BYTES, WRITE, FUSED_SECOND, 2, lbas[at], 1);
-                MUST(zk_submit(ports, entries, sizeof entries, given, 1024, told, sizeof told) == ZK_DONE);
+                put_little(given + length, 8, ++numbers[at]);
+                entry_of(entries, COMPARE, FUSED_FIRST, 1, lbas[at], blocks);
+                entry_of(entries + ZK_ENTRY_BYTES, WRITE, FUSED_SECOND, 2, lbas[at], blocks);
+                MUST(zk_submit(ports, entries, sizeof entries, given, 2 * length, told, sizeof told) == ZK_DONE);
                 MUST(status_of(told + ZK_COMPLETION_BYTES) == 0);
             }
             MUST(status_of(told) == 0);
         }
-        printf("%llu %s of one block, nsze %llu\n", (unsigned long long)count, names[kind], (unsigned long long)nsze);
+        printf("%llu %s of %u blocks, nsze %llu\n", (unsigned long long)count, names[kind], blocks, (unsigned long long)nsze);
     }
     MUST(zk_close(ports) == ZK_DONE);
 }
@@ -755,8 +756,8 @@ int main(int words, char **word)
         else
             right = false;
     }
-    if (!right || blocks < 1 || blocks > MOST_BLOCKS || nsze < 1000) {
-        fprintf(stderr, "large [SEED] [--times], large --memory [--blocks N], or large --count N [--of writes|reads|pairs] [--nsze N]\n");
+    if (!right || blocks < 1 || blocks > (count ? 8 : MOST_BLOCKS) || nsze < 16000) {
+        fprintf(stderr, "large [SEED] [--times], large --memory [--blocks N], or large --count N [--of writes|reads|pairs] [--nsze N] [--blocks N]\n");
         return 2;
     }
     state = seed * 0x9e3779b97f4a7c15ull | 1;
@@ -765,7 +766,7 @@ int main(int words, char **word)
         return 0;
     }
     if (count) {
-        do_commands(count, of, nsze);
+        do_commands(count, of, nsze, (uint32_t)blocks);
         return 0;
     }
     unsigned rows = hold_numbers();

@@ -10,6 +10,7 @@ mod closing;
 mod job_done;
 pub mod laws;
 mod lent;
+mod making;
 mod meeting;
 mod opening;
 mod port;

@@ -1,4 +1,4 @@
-ghost use Rattle.std.specs.Prelude.{◌≡◌, ◌<◌, ◌≤◌, ◌^◌, ℕ, IfOk, IfErr, IfSome, is_some, length, true, false};
+ghost use Rattle.std.specs.Prelude.{◌≡◌, ◌<◌, ◌≤◌, ℕ, IfOk, IfSome, is_some, length};
 ghost use Rattle.nvm_record.specs.Lists.{IsAt};
 ghost use Rattle.nvm_store.specs.HistoryEntry.{HistoryEntry};
 ghost use Rattle.nvm_geometry.specs.Boundaries.{units_of};
@@ -11,19 +11,17 @@ ghost use Rattle.nvm_unit.specs.Passes.{UnitName};
 ghost use Rattle.nvm_unit.specs.Replies.{IsBroughtUp};
 ghost use Rattle.nvm_space.specs.Visits.{BecomesAt, MeetInEach};
 ghost use Rattle.nvm_space.specs.Closing.{EndsWhole};
-ghost use Rattle.nvm_space.specs.Inside.Recorded.{AreRecordedOf, limit_of};
-ghost use Rattle.nvm_space.specs.Ports.{AreAllPortsOf, IsPortOf, new_ports};
-ghost use Rattle.nvm_space.specs.Spaces.{IsLaidOut, IsPortCount, IsSpaceFault, most_entries};
+ghost use Rattle.nvm_space.specs.Inside.Recorded.{limit_of};
+ghost use Rattle.nvm_space.specs.Ports.{AreAllPortsOf, IsPortOf};
+ghost use Rattle.nvm_space.specs.Spaces.{most_entries};
 
 use crate::closing::histories;
 use crate::meeting::meet_in_each;
-use crate::opening::opened;
 use crate::port::Port;
-use crate::space_fault::SpaceFault;
 use nvm_geometry::{Geometry, LargeGeometry, Regions};
 use nvm_record::NoMemory;
 use nvm_store::{History, Limit};
-use nvm_unit::{Count, Kept, Unit};
+use nvm_unit::{Kept, Unit};
 use std::alloc::Global;
 use std::marker::Model;
 use std::sync::Wait;
@@ -79,151 +77,7 @@ impl<K: Kept> Model for Space<K> {
     }) × (s.regions ≡ regions_of s.geometry) × AreRecordedOf s.geometry s.recorded };
 }
 
-impl Space {
-    /// A new space of this geometry, whose blocks are all zero bytes, and its ports, which are numbered from 0.
-    /// Each unit's history may have as many entries as the limit says. `Ports` says that there can't be that many
-    /// ports; a refusal of memory leaves nothing. It costs a step for each unit and port.
-    ///
-    /// Each port keeps the version of each unit at the last point that it has seen there, for
-    /// [`read_now`](Space::read_now). [`Unit::new`] says what that costs.
-    pub fn new(
-        alloc: Global,
-        geometry: Geometry,
-        ports: u16,
-        limit: Limit,
-    ) -> Result<(Space, Vec<Port>), SpaceFault>
-        ensures taken { IfOk result (λ s. IsPortCount ports) }
-        ensures refused { IfErr result (IsSpaceFault ports) }
-        ensures namespace { IfOk result (λ s. s.0.namespace ≡ geometry) }
-        ensures limit { IfOk result (λ s. s.0.limit ≡ limit) }
-        ensures lists { IfOk result (λ s. s.0.lists ≡ true) }
-        ensures units { IfOk result (λ s. IsLaidOut s.0) }
-        ensures count { IfOk result (λ s. s.0.ports ≡ ports) }
-        ensures ports { IfOk result (λ s. s.1.items ≡ new_ports s.0) }
-        ensures all { IfOk result (λ s. AreAllPortsOf s.0 s.1.items) }
-        ensures versions { IfOk result (λ s. s.0.versions ≡ true) }
-    {
-        Space::open(alloc, geometry, ports, limit, true)
-    }
-
-    /// What [`new`](Space::new) does, with versions or without. Without, no port ever keeps a version: nobody can
-    /// [`read_now`](Space::read_now), and no change copies anything for a reader.
-    pub fn open(
-        alloc: Global,
-        geometry: Geometry,
-        ports: u16,
-        limit: Limit,
-        versions: bool,
-    ) -> Result<(Space, Vec<Port>), SpaceFault>
-        ensures taken { IfOk result (λ s. IsPortCount ports) }
-        ensures refused { IfErr result (IsSpaceFault ports) }
-        ensures namespace { IfOk result (λ s. s.0.namespace ≡ geometry) }
-        ensures limit { IfOk result (λ s. s.0.limit ≡ limit) }
-        ensures lists { IfOk result (λ s. s.0.lists ≡ true) }
-        ensures units { IfOk result (λ s. IsLaidOut s.0) }
-        ensures count { IfOk result (λ s. s.0.ports ≡ ports) }
-        ensures ports { IfOk result (λ s. s.1.items ≡ new_ports s.0) }
-        ensures all { IfOk result (λ s. AreAllPortsOf s.0 s.1.items) }
-        ensures versions { IfOk result (λ s. s.0.versions ≡ versions) }
-    {
-        // For the proof alone: it has no more units than there can be regions.
-        let _units = geometry.units();
-        let recorded = Recorded { geometry, limit };
-        Space::made(alloc, geometry.large(), ports, Some(recorded), versions)
-    }
-}
-
-impl Space<Count> {
-    /// What [`open`](Space::open) does, but the space keeps no histories. Each unit still has one, of which contracts speak; it takes no
-    /// memory, and no call gives it. [`close`](Space::close) gives the number of its entries. The points of parts are those that a record can
-    /// hold, and a job that is done lists its parts.
-    pub fn counted(
-        alloc: Global,
-        geometry: Geometry,
-        ports: u16,
-        limit: Limit,
-        versions: bool,
-    ) -> Result<(Space<Count>, Vec<Port<Count>>), SpaceFault>
-        ensures taken { IfOk result (λ s. IsPortCount ports) }
-        ensures refused { IfErr result (IsSpaceFault ports) }
-        ensures namespace { IfOk result (λ s. s.0.namespace ≡ geometry) }
-        ensures limit { IfOk result (λ s. s.0.limit ≡ limit) }
-        ensures lists { IfOk result (λ s. s.0.lists ≡ true) }
-        ensures units { IfOk result (λ s. IsLaidOut s.0) }
-        ensures count { IfOk result (λ s. s.0.ports ≡ ports) }
-        ensures ports { IfOk result (λ s. s.1.items ≡ new_ports s.0) }
-        ensures all { IfOk result (λ s. AreAllPortsOf s.0 s.1.items) }
-        ensures versions { IfOk result (λ s. s.0.versions ≡ versions) }
-    {
-        // For the proof alone: it has no more units than there can be regions.
-        let _units = geometry.units();
-        let recorded = Recorded { geometry, limit };
-        Space::made(alloc, geometry.large(), ports, Some(recorded), versions)
-    }
-
-    /// What [`counted`](Space::counted) does, of a namespace of any size and without a limit: the history of each region may have 2^62 entries, and
-    /// no parts are listed.
-    pub fn unrecorded(
-        alloc: Global,
-        geometry: LargeGeometry,
-        ports: u16,
-        versions: bool,
-    ) -> Result<(Space<Count>, Vec<Port<Count>>), SpaceFault>
-        ensures taken { IfOk result (λ s. IsPortCount ports) }
-        ensures refused { IfErr result (IsSpaceFault ports) }
-        ensures namespace { IfOk result (λ s. s.0.namespace ≡ geometry) }
-        ensures limit { IfOk result (λ s. s.0.limit ≡ 2 ^ 62) }
-        ensures lists { IfOk result (λ s. s.0.lists ≡ false) }
-        ensures units { IfOk result (λ s. IsLaidOut s.0) }
-        ensures count { IfOk result (λ s. s.0.ports ≡ ports) }
-        ensures ports { IfOk result (λ s. s.1.items ≡ new_ports s.0) }
-        ensures all { IfOk result (λ s. AreAllPortsOf s.0 s.1.items) }
-        ensures versions { IfOk result (λ s. s.0.versions ≡ versions) }
-    {
-        Space::made(alloc, geometry, ports, None, versions)
-    }
-}
-
 impl<K: Kept> Space<K> {
-    /// A new space, whatever it keeps.
-    fn made(
-        alloc: Global,
-        geometry: LargeGeometry,
-        ports: u16,
-        recorded: Option<Recorded>,
-        versions: bool,
-    ) -> Result<(Space<K>, Vec<Port<K>>), SpaceFault>
-        requires { AreRecordedOf geometry recorded }
-        ensures taken { IfOk result (λ s. IsPortCount ports) }
-        ensures refused { IfErr result (IsSpaceFault ports) }
-        ensures namespace { IfOk result (λ s. s.0.namespace ≡ geometry) }
-        ensures limit { IfOk result (λ s. s.0.limit ≡ most_entries (limit_of recorded)) }
-        ensures lists { IfOk result (λ s. s.0.lists ≡ is_some recorded) }
-        ensures units { IfOk result (λ s. IsLaidOut s.0) }
-        ensures count { IfOk result (λ s. s.0.ports ≡ ports) }
-        ensures ports { IfOk result (λ s. s.1.items ≡ new_ports s.0) }
-        ensures all { IfOk result (λ s. AreAllPortsOf s.0 s.1.items) }
-        ensures versions { IfOk result (λ s. s.0.versions ≡ versions) }
-    {
-        if ports == 0 || ports > MOST_PORTS {
-            return Err(SpaceFault::Ports);
-        }
-        let regions = geometry.regions();
-        let limit = limit_in(&recorded);
-        let (units, dealt) = opened(alloc, &geometry, regions, ports, &limit, versions)?;
-        Ok((
-            Space {
-                geometry,
-                regions,
-                ports,
-                recorded,
-                versions,
-                units,
-            },
-            dealt,
-        ))
-    }
-
     /// The namespace that it is.
     pub fn geometry(&self) -> LargeGeometry
         ensures { result ≡ self.now.namespace }
@@ -331,15 +185,5 @@ impl Space {
     {
         let place = usize::from(region);
         self.units[place].history(rt, alloc, &mut port.passes[place])
-    }
-}
-
-/// The most entries of a unit's history, where there is such a limit.
-fn limit_in(recorded: &Option<Recorded>) -> Option<Limit>
-    ensures { result ≡ limit_of recorded.now }
-{
-    match recorded {
-        Some(recorded) => Some(recorded.limit),
-        None => None,
     }
 }

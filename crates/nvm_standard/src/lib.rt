@@ -17,6 +17,7 @@ mod contradicting;
 mod contradiction;
 mod contradiction_fault;
 mod deallocating;
+mod dividing;
 mod doer;
 mod done_rows;
 mod explaining;

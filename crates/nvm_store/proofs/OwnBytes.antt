@@ -3,16 +3,18 @@ use Rattle.std.proofs.Common.{◌≡◌, ◌⊎◌, ℕ, zero, suc, ◌+◌, ◌
 use mathlib.Core.Option.{some-injective}
 use Rattle.std.proofs.Math.Nat.{mul-le-mul_left}
 use Rattle.std.proofs.Math.Seq.{drop-append-add, take-add}
-use Rattle.std.proofs.lemmas.List.{drop-append-le, drop-drop, drop-replicate, drop-take, length-append, length-drop, length-replicate, length-take-le, take-append-le, take-replicate, take-take}
+use Rattle.std.proofs.lemmas.List.{drop-append-le, drop-drop, drop-replicate, drop-take, length-append, length-drop, length-replicate, length-take-le, take-append-le, take-replicate, take-take, take_all}
+use Rattle.std.proofs.lemmas.List.Elements.{All-replicate}
 use Rattle.std.specs.Bool.{IsTrue, if◌then◌else◌}
 use Rattle.std.specs.Prelude.{Err, Ok, OnOk, Result, is_ok}
+use Rattle.std.specs.List.{All, slice_range}
 use Rattle.std.specs.Str.{bytes_eq}
 use Rattle.std.proofs.lemmas.Bool.{true≢false}
 use Rattle.std.proofs.lemmas.Slice.Eq.{bytes_eq-Decides}
 use Rattle.nvm_record.specs.declared.block.Block.{Block}
 use Rattle.nvm_record.specs.declared.block.Block.TheVariants.{Bytes}
 use Rattle.nvm_record.specs.Lists.{IsAt}
-use Rattle.nvm_record.specs.Medium.{has_mark, joined}
+use Rattle.nvm_record.specs.Medium.{IsOfSize, has_mark, joined}
 use Rattle.nvm_record.specs.Step.{block_at}
 use Rattle.nvm_store.specs.Inside.Own.{cut, kept_bytes, with_bytes}
 use Rattle.nvm_store.specs.Inside.Rewrite.{IsRewritten, stretch_of, zero_block}
@@ -87,6 +89,13 @@ unmarked_cut (suc n) s bytes = unmarked_cut n s (drop s bytes)
 -- None of them is marked.
 pub unmarked_stretch : (at count n s : ℕ) (bytes : List ℕ) → at + count ≤ n → has_mark (stretch_of at count (cut n s bytes)) ≡ false
 unmarked_stretch at count n s bytes within = ap has_mark (stretch_cut at count n s bytes within) ∙ unmarked_cut count s (drop (at * s) bytes)
+
+-- Blocks of which no byte is kept are zero.
+pub zero_stretch : (n s at count : ℕ) → at + count ≤ n → All (λ block. block ≡ zero_block s) (stretch_of at count (cut n s (replicate (n * s) 0)))
+zero_stretch n s at count within =
+    let zeroes : stretch_of at count (replicate n (zero_block s)) ≡ replicate count (zero_block s) =
+    ap (take count) (drop-replicate at n (zero_block s)) ∙ take-replicate count (n - at) (zero_block s) (omega arith) in
+    rw (zeroes_cut n s, zeroes) (All-replicate (λ block. block ≡ zero_block s) count (zero_block s) refl)
 
 -- Bytes that are all there are kept.
 pub kept_whole : (len : ℕ) (bytes : List ℕ) → length bytes ≡ len → kept_bytes len bytes ≡ bytes
@@ -369,3 +378,75 @@ new_within size n s at count from new bytes sized whole within few is =
 pub if_ok : {X E A : Type 0} (r : Result X E) (x a b : A) → x ≡ (if is_ok r then a else b) → OnOk r (x ≡ a)
 if_ok (Ok y) x a b is = is
 if_ok (Err e) x a b is = tt
+
+-- Each block that is cut has the size.
+pub sized_cut : (n s : ℕ) (bytes : List ℕ) → length bytes ≡ n * s → AreOfSize s (cut n s bytes)
+sized_cut n s bytes whole i block is =
+    let here = is_at_cut n s bytes i block is in
+    let lt : i < n = here.0 in
+    let far = mul_le (suc i) n s (omega arith) in
+    let e = more i s in
+    let left : length (drop (i * s) bytes) ≡ length bytes - i * s = length-drop (i * s) bytes in
+    subst (λ (b : Block). IsOfSize s b) (sym here.1) (length-take-le s (drop (i * s) bytes) (omega (arith, left, whole, far, e)))
+
+-- One more block is cut.
+pub cut_more : (n s : ℕ) (bytes : List ℕ) → cut (n + 1) s bytes ≡ cut n s bytes ++ block_at s bytes n ∷ []
+cut_more zero s bytes = let none : 0 * s ≡ 0 = omega arith in rw none refl
+cut_more (suc n) s bytes =
+    let e : suc n + 1 ≡ suc (n + 1) = omega arith in
+    rw e (ap (λ (l : List Block). Bytes (take s bytes) ∷ l)
+    (cut_more n s (drop s bytes) ∙ ap (λ (l : List ℕ). cut n s (drop s bytes) ++ Bytes (take s l) ∷ []) (next n s bytes)))
+
+-- A block of a part of data is one of the data.
+pub block_of_part : (size from count : ℕ) (xs : List ℕ) (i : ℕ) → i < count
+    → block_at size (slice_range xs (from * size) (from * size + count * size)) i ≡ block_at size xs (from + i)
+block_of_part size from count xs i lt =
+    let m = count * size in
+    let rest = drop (from * size) xs in
+    let len : from * size + count * size - from * size ≡ m = omega arith in
+    let far = mul_le (suc i) count size (omega arith) in
+    let e = more i size in
+    let whole : m ≡ i * size + (m - i * size) = omega (arith, far, e) in
+    let there : from * size + i * size ≡ (from + i) * size = grind arith in
+    ap (λ (k : ℕ). Bytes (take size (drop (i * size) (take k rest)))) (len ∙ whole)
+    ∙ ap (λ (l : List ℕ). Bytes (take size l)) (drop-take (i * size) (m - i * size) rest)
+    ∙ ap Bytes (take-take size (m - i * size) (drop (i * size) rest) (omega (arith, far, e)))
+    ∙ ap (λ (l : List ℕ). Bytes (take size l)) (drop-drop (i * size) (from * size) xs)
+    ∙ ap (λ (k : ℕ). Bytes (take size (drop k xs))) there
+
+-- Data of one block is that block.
+pub first_block : (size : ℕ) (payload : List ℕ) → length payload ≡ 1 * size → block_at size payload 0 ≡ Bytes payload
+first_block size payload len =
+    let none : 0 * size ≡ 0 = omega arith in
+    let all : take size payload ≡ payload = take_all size payload (omega (arith, len)) in
+    rw none (ap Bytes all)
+
+-- What is cut doesn't depend on the bytes behind it.
+cut_front : (n s : ℕ) (bytes : List ℕ) → cut n s (take (n * s) bytes) ≡ cut n s bytes
+cut_front zero s bytes = refl
+cut_front (suc n) s bytes =
+    let front : take s (take (s + n * s) bytes) ≡ take s bytes = take-take s (s + n * s) bytes (omega arith) in
+    let rest : drop s (take (s + n * s) bytes) ≡ take (n * s) (drop s bytes) = drop-take s (n * s) bytes in
+    rw (more n s, front, rest) (ap (λ (l : List Block). Bytes (take s bytes) ∷ l) (cut_front n s (drop s bytes)))
+
+-- Blocks whose bytes are zero are zero.
+pub zero_part : (count size : ℕ) (bytes : List ℕ) (view : List Block) (at n from len : ℕ) → cut count size (kept_bytes (count * size) bytes) ≡ view
+    → (bytes ≡ []) ⊎ (length bytes ≡ count * size) → (length bytes ≡ 0 → ⊥) → at + n ≤ length view → from ≡ at * size → len ≡ n * size
+    → take (from + len - from) (drop from bytes) ≡ replicate (length (take (from + len - from) (drop from bytes))) 0
+    → All (λ block. block ≡ zero_block size) (stretch_of at n view)
+zero_part count size bytes view at n from len is whole some range from_is len_is are_zero =
+    let kept = all_kept (count * size) bytes whole some in
+    let within = within_own count size (kept_bytes (count * size) bytes) view (at + n) is range in
+    let just : from + len - from ≡ n * size = omega (arith, len_is) in
+    let all : length bytes ≡ count * size = ap length (sym kept) ∙ length_kept (count * size) bytes whole in
+    let span = span_within count size at n within in
+    let left : length (drop (at * size) bytes) ≡ length bytes - at * size = length-drop (at * size) bytes in
+    let few : n * size ≤ length (drop (at * size) bytes) = omega (arith, left, all, span) in
+    let part : take (from + len - from) (drop from bytes) ≡ take (n * size) (drop (at * size) bytes) =
+    ap (λ (k : ℕ). take k (drop from bytes)) just ∙ ap (λ (k : ℕ). take (n * size) (drop k bytes)) from_is in
+    let same : length (take (from + len - from) (drop from bytes)) ≡ n * size = ap length part ∙ length-take-le (n * size) (drop (at * size) bytes) few in
+    let zeroes : take (n * size) (drop (at * size) bytes) ≡ replicate (n * size) 0 = sym part ∙ are_zero ∙ ap (λ (k : ℕ). replicate {A = ℕ} k 0) same in
+    let blocks : stretch_of at n view ≡ replicate n (zero_block size) =
+    ap (λ (v : List Block). stretch_of at n v) (sym is ∙ ap (λ (l : List ℕ). cut count size l) kept)
+    ∙ stretch_cut at n count size bytes within ∙ sym (cut_front n size (drop (at * size) bytes)) ∙ ap (λ (l : List ℕ). cut n size l) zeroes ∙ zeroes_cut n size in
+    rw blocks (All-replicate (λ block. block ≡ zero_block size) n (zero_block size) refl)

@@ -95,6 +95,27 @@ rewritten_more at i place news old mid new so_far here below put = record {
 pub rewritten_none : (at : ℕ) (news : ℕ → Block) (old : List Block) → IsRewritten at 0 news old old
 rewritten_none at news old = record { len = refl; rewritten = λ j lt. absurd (omega arith); others = λ j block out is. is }
 
+-- What is new may be said otherwise.
+pub rewritten_same : (at n : ℕ) (news others : ℕ → Block) (old new : List Block) → ((i : ℕ) → i < n → news i ≡ others i)
+    → IsRewritten at n news old new → IsRewritten at n others old new
+rewritten_same at n news others old new same put = record {
+  len = put.len;
+  rewritten = λ i lt. subst (λ (b : Block). IsAt new (at + i) b) (same i lt) (put.rewritten i lt);
+  others = put.others;
+}
+
+-- Where all blocks are new, it doesn't matter which there were.
+pub rewritten_all : (n : ℕ) (news : ℕ → Block) (mid old new : List Block) → length mid ≡ n → length old ≡ n → IsRewritten 0 n news mid new
+    → IsRewritten 0 n news old new
+rewritten_all n news mid old new count same put = record {
+  len = put.len ∙ count ∙ sym same;
+  rewritten = put.rewritten;
+  others =
+      λ j block out is.
+      let below : j < length old = at_below old j block is in
+      absurd (elim out [ inl low ↦ omega arith | inr high ↦ omega (arith, below, same) ]);
+}
+
 -- Some more blocks are put after those that are already new.
 pub rewritten_on : (at i n place : ℕ) (news : ℕ → Block) (old mid new : List Block) → IsRewritten at i news old mid → place ≡ at + i
     → IsRewritten place n (λ j. news (i + j)) mid new → IsRewritten at (i + n) news old new

@@ -15,6 +15,7 @@ mod own_blocks;
 mod shared_blocks;
 mod source;
 mod stored_block;
+mod stored_blocks;
 mod stretches;
 mod tree;
 

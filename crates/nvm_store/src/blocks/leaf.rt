@@ -1,28 +1,48 @@
-ghost use Rattle.std.specs.Prelude.{◌≡◌, ◌<◌, IfOk, length, replicate, slice_set};
+ghost use Rattle.std.specs.Prelude.{◌≡◌, ◌+◌, ◌≤◌, IfOk, IfSome, List, OnErr, false, length, replicate, true};
 ghost use Rattle.std.specs.Arc.{arc_value};
-ghost use Rattle.nvm_store.specs.Inside.Rewrite.{zero_block};
+ghost use Rattle.nvm_record.specs.declared.block.Block.{Block};
+ghost use Rattle.nvm_store.specs.Inside.Rewrite.{IsRewritten, zero_block};
+ghost use Rattle.nvm_store.specs.Inside.Source.{HasBlocks, source_block};
 
+mod reading;
+
+use crate::blocks::own_blocks::OwnBlocks;
 use crate::blocks::source::Source;
-use crate::blocks::stored_block::StoredBlock;
+use crate::blocks::stored_blocks::StoredBlocks;
 use crate::blocks::tree::Tree;
 use nvm_record::NoMemory;
 use std::alloc::Global;
 use std::marker::Model;
 use std::sync::Arc;
 
-/// The lowest node: stored blocks.
+/// The most bytes of a block that a page has: eight of them are 4 KiB.
+pub const MOST_IN_PAGE: usize = 512;
+/// The most blocks that a page has.
+const MOST_BLOCKS: usize = 8;
+
+/// The lowest node.
 #[derive(Drop)]
 pub struct Leaf {
-    kept: Vec<StoredBlock>,
+    blocks: LeafBlocks,
+}
+
+/// How its blocks are kept.
+#[derive(Drop)]
+pub enum LeafBlocks {
+    /// Each by itself, so that its data can be shared, or it can be marked.
+    Stored(StoredBlocks),
+    /// As a page: in one piece of memory. They are so from when all of them are written at once, with data that nobody shares.
+    Page(OwnBlocks),
 }
 
 impl Model for Leaf {
     ghost use Rattle.std.specs.Prelude.{List};
     ghost use Rattle.nvm_record.specs.declared.block.Block.{Block};
+    ghost use Rattle.nvm_store.specs.Inside.Leaf.{kept_in};
 
     ghost Value = { List Block };
 
-    ghost view = { λ l. l.kept.items };
+    ghost view = { λ l. kept_in l.blocks };
 }
 
 impl Leaf {
@@ -30,20 +50,18 @@ impl Leaf {
     pub fn zeroed(alloc: Global, count: usize, size: usize) -> Result<Arc<Leaf>, NoMemory>
         ensures { IfOk result (λ l. arc_value l ≡ replicate count (zero_block size)) }
     {
-        let mut kept = Vec::with_capacity(alloc, count)?;
-        for _ in 0..count {
-            kept.push(StoredBlock::zero(size))?;
-        }
-        Ok(Arc::new(alloc, Leaf { kept })?)
+        let blocks = LeafBlocks::Stored(StoredBlocks::zeroed(alloc, count, size)?);
+        Ok(Arc::new(alloc, Leaf { blocks })?)
     }
 
-    /// Puts a block at place `at`.
-    #[inline(always)]
-    fn put(&mut self, at: usize, block: StoredBlock)
-        requires { at < length self.old }
-        ensures { self.new ≡ slice_set self.old at block }
+    /// How many blocks there are.
+    pub fn len(&self) -> usize
+        ensures { result ≡ length self.now }
     {
-        self.kept[at] = block;
+        match &self.blocks {
+            LeafBlocks::Stored(blocks) => blocks.len(),
+            LeafBlocks::Page(blocks) => blocks.len(),
+        }
     }
 }
 
@@ -51,19 +69,32 @@ impl Tree for Leaf {
     ghost blocks = { λ l. l };
 
     #[inline(always)]
-    fn stretch(&self, at: usize) -> &[StoredBlock] {
-        &self.kept[at..]
+    fn leaf(&self, at: usize) -> (&Leaf, usize) {
+        (self, at)
     }
 
     #[inline(always)]
     fn set(&mut self, alloc: Global, at: usize, source: &Source<'_>) -> Result<(), NoMemory> {
-        self.kept[at] = source.block(alloc, 0)?;
-        Ok(())
+        match &mut self.blocks {
+            LeafBlocks::Stored(blocks) => blocks.set(alloc, at, source),
+            LeafBlocks::Page(_) => {
+                self.fill(alloc, at, 0, 1, 1, source)?;
+                Ok(())
+            }
+        }
     }
 
     #[inline(always)]
-    fn overwrite(&mut self, at: usize, bytes: &[u8]) -> bool {
-        self.kept[at].overwrite(bytes)
+    fn overwrite(&mut self, at: usize, count: usize, size: usize, payload: &[u8]) -> bool {
+        match &mut self.blocks {
+            LeafBlocks::Stored(blocks) => {
+                if count != 1 {
+                    return false;
+                }
+                blocks.overwrite(at, size, payload)
+            }
+            LeafBlocks::Page(blocks) => blocks.overwrite(at, count, size, payload),
+        }
     }
 
     fn fill(
@@ -75,28 +106,38 @@ impl Tree for Leaf {
         least: usize,
         source: &Source<'_>,
     ) -> Result<usize, NoMemory> {
-        if source.has_data() {
-            let (other, count) = self.filled(alloc, at, from, to, least, source)?;
-            *self = other;
-            return Ok(count);
-        }
-        // Nothing of this can be refused, so the leaf changes in place.
-        let count = (self.kept.len() - at).min(to - from);
+        let len = self.len();
+        let count = (len - at).min(to - from);
         if count < least {
             return Ok(0);
         }
-        for place in at..at + count {
-            self.put(place, source.plain_block());
+        if count == len {
+            if let Some(page) = page_of(alloc, len, from, source)? {
+                self.blocks = LeafBlocks::Page(page);
+                return Ok(count);
+            }
         }
-        Ok(count)
+        match &mut self.blocks {
+            LeafBlocks::Stored(blocks) => blocks.fill(alloc, at, from, to, least, source),
+            LeafBlocks::Page(page) => {
+                if put_in_page(page, alloc, at, count, from, source)? {
+                    return Ok(count);
+                }
+                // Marks have no place in a page.
+                let mut blocks = page.stored(alloc)?;
+                let count = blocks.fill(alloc, at, from, to, least, source)?;
+                self.blocks = LeafBlocks::Stored(blocks);
+                Ok(count)
+            }
+        }
     }
 
     fn copy(&self, alloc: Global) -> Result<Leaf, NoMemory> {
-        let mut copies = Vec::with_capacity(alloc, self.kept.len())?;
-        for block in &self.kept {
-            copies.push(block.share()?)?;
-        }
-        Ok(Leaf { kept: copies })
+        let blocks = match &self.blocks {
+            LeafBlocks::Stored(blocks) => LeafBlocks::Stored(blocks.copy(alloc)?),
+            LeafBlocks::Page(blocks) => LeafBlocks::Page(blocks.copy()?),
+        };
+        Ok(Leaf { blocks })
     }
 
     fn filled(
@@ -108,19 +149,95 @@ impl Tree for Leaf {
         least: usize,
         source: &Source<'_>,
     ) -> Result<(Leaf, usize), NoMemory> {
-        let count = (self.kept.len() - at).min(to - from);
-        if count < least {
-            return Ok((self.copy(alloc)?, 0));
+        let len = self.len();
+        if at == 0 && least <= len && len <= to - from {
+            if let Some(page) = page_of(alloc, len, from, source)? {
+                return Ok((
+                    Leaf {
+                        blocks: LeafBlocks::Page(page),
+                    },
+                    len,
+                ));
+            }
         }
-        let mut copies = Vec::with_capacity(alloc, self.kept.len())?;
-        for (place, block) in self.kept.iter().enumerate() {
-            let next = if place >= at && place - at < count {
-                source.block(alloc, from + (place - at))?
-            } else {
-                block.share()?
-            };
-            copies.push(next)?;
+        if let LeafBlocks::Stored(blocks) = &self.blocks {
+            let (blocks, count) = blocks.filled(alloc, at, from, to, least, source)?;
+            return Ok((
+                Leaf {
+                    blocks: LeafBlocks::Stored(blocks),
+                },
+                count,
+            ));
         }
-        Ok((Leaf { kept: copies }, count))
+        let mut other = self.copy(alloc)?;
+        let count = other.fill(alloc, at, from, to, least, source)?;
+        Ok((other, count))
+    }
+}
+
+/// `count` of the source's blocks, from place `from` on, as a page: of data that nobody shares, of which they are few and small enough. `None` of
+/// any other source.
+fn page_of(
+    alloc: Global,
+    count: usize,
+    from: usize,
+    source: &Source<'_>,
+) -> Result<Option<OwnBlocks>, NoMemory>
+    requires { HasBlocks source.now (from + count) }
+    ensures { IfOk result (λ found. IfSome found (λ page. (old : List Block) → length old ≡ count
+        → IsRewritten 0 count (λ i. source_block source.now (from + i)) old page)) }
+{
+    let Source::Data { size, payload } = *source else {
+        return Ok(None);
+    };
+    if payload.is_shared() || size > MOST_IN_PAGE || count > MOST_BLOCKS {
+        return Ok(None);
+    }
+    // A length fits, so each place up to it does.
+    let _len = payload.len();
+    let mut page = OwnBlocks::zeroed(alloc, count, size);
+    let first = from * size;
+    let part = payload.part(first, first + count * size);
+    page.write(0, count, size, part.as_slice())?;
+    Ok(Some(page))
+}
+
+/// Puts `count` of the source's blocks, from place `from` on, at the places from `at` on of a page, and says whether it did: it doesn't where they are
+/// marks, or of another size. Where memory is refused, all blocks are as they were.
+fn put_in_page(
+    page: &mut OwnBlocks,
+    alloc: Global,
+    at: usize,
+    count: usize,
+    from: usize,
+    source: &Source<'_>,
+) -> Result<bool, NoMemory>
+    requires range { at + count ≤ length page.old }
+    requires source { HasBlocks source.now (from + count) }
+    ensures done { IfOk result (λ done. done ≡ true
+        → IsRewritten at count (λ i. source_block source.now (from + i)) page.old page.new) }
+    ensures left { IfOk result (λ done. done ≡ false → page.new ≡ page.old) }
+    ensures err { OnErr result (page.new ≡ page.old) }
+{
+    match *source {
+        Source::Data { size, payload } => {
+            if !page.has_size(size) {
+                return Ok(false);
+            }
+            // A length fits, so each place up to it does.
+            let _len = payload.len();
+            let first = from * size;
+            let part = payload.part(first, first + count * size);
+            page.write(at, count, size, part.as_slice())?;
+            Ok(true)
+        }
+        Source::Zeroes { size } => {
+            if !page.has_size(size) {
+                return Ok(false);
+            }
+            page.zero(alloc, at, count, size);
+            Ok(true)
+        }
+        Source::Marks => Ok(false),
     }
 }

@@ -1,14 +1,15 @@
-ghost use Rattle.std.specs.Prelude.{◌≡◌, ◌⊎◌, ◌+◌, ◌*◌, ◌++◌, ◌≤◌, [], IfNone, IfOk, IfSome, OnErr, OnOk, false, length, true, replicate};
-ghost use Rattle.std.specs.Str.{bytes_eq};
-ghost use Rattle.nvm_record.specs.Medium as medium;
+ghost use Rattle.std.specs.Prelude.{◌≡◌, ◌⊎◌, ◌+◌, ◌*◌, ◌≤◌, [], IfOk, OnErr, OnOk, false, length, replicate, true};
+ghost use Rattle.std.specs.Bool.{OnTrue};
 ghost use Rattle.nvm_record.specs.Step.{block_at};
 ghost use Rattle.nvm_store.specs.Inside.Own.{kept_bytes, with_bytes};
-ghost use Rattle.nvm_store.specs.Inside.Rewrite.{stretch_of, IsRewritten, zero_block};
+ghost use Rattle.nvm_store.specs.Inside.Rewrite.{IsRewritten, zero_block};
 ghost use Rattle.nvm_store.specs.Inside.Sound.{AreOfSize};
 
+mod reading;
+
 use crate::blocks::shared_blocks::SharedBlocks;
-use crate::blocks::stored_block::{are_zero, push_zeroes, put_zeroes};
-use nvm_record::{NoMemory, PayloadRef, are_equal};
+use crate::blocks::stored_blocks::StoredBlocks;
+use nvm_record::{NoMemory, PayloadRef};
 use std::alloc::Global;
 use std::marker::Model;
 
@@ -118,90 +119,48 @@ impl OwnBlocks {
         clear(&mut self.bytes, from, len);
     }
 
-    /// Whether one of the `count` blocks from place `at` is marked: none ever is.
+    /// Whether this is the size of each block.
     #[inline(always)]
-    pub fn has_mark(&self, at: usize, count: usize) -> bool
-        requires { at + count ≤ length self.now }
-        ensures is { result ≡ medium.has_mark (stretch_of at count self.now) }
-        ensures none { result ≡ false }
+    pub fn has_size(&self, size: usize) -> bool
+        ensures { OnTrue result (AreOfSize size self.now) }
     {
-        // For the proof alone: each of them is cut from the bytes.
-        let _count = self.count;
-        false
-    }
-
-    /// Whether the bytes of the `count` blocks from place `at` are exactly the data. It is never `None`, as of blocks of which one is marked.
-    #[inline(always)]
-    pub fn compare(&self, at: usize, count: usize, payload: &[u8]) -> Option<bool>
-        requires { at + count ≤ length self.now }
-        ensures marked { IfNone result (medium.has_mark (stretch_of at count self.now) ≡ true) }
-        ensures same { IfSome result (λ same. (medium.has_mark (stretch_of at count self.now) ≡ false)
-            × (same ≡ bytes_eq (medium.joined (stretch_of at count self.now)) payload.now)) }
-    {
-        if self.has_mark(at, count) {
-            return None;
+        if self.size != size {
+            return false;
         }
-        Some(self.is_equal(at, count, payload))
+        true
     }
 
-    /// Whether the bytes of the `count` blocks from place `at` are exactly the data.
+    /// Overwrites the bytes of the `count` blocks from place `at` with the data, and says whether it did. It does where there are so many of this size, and
+    /// their bytes are kept.
     #[inline(always)]
-    fn is_equal(&self, at: usize, count: usize, payload: &[u8]) -> bool
-        requires { at + count ≤ length self.now }
-        ensures { result ≡ bytes_eq (medium.joined (stretch_of at count self.now)) payload.now }
+    pub fn overwrite(&mut self, at: usize, count: usize, size: usize, payload: &[u8]) -> bool
+        requires at { at ≤ length self.old }
+        requires payload { length payload.now ≡ count * size }
+        ensures taken { result ≡ true → IsRewritten at count (block_at size payload.now) self.old self.new }
+        ensures left { result ≡ false → self.new ≡ self.old }
     {
-        let (from, len) = bytes_of(self.count, self.size, at, count);
+        if size != self.size {
+            return false;
+        }
         if self.bytes.is_empty() {
-            if payload.len() != len {
-                return false;
-            }
-            return are_zero(payload);
+            return false;
         }
-        are_equal(&self.bytes[from..from + len], payload)
+        if count > self.count - at {
+            return false;
+        }
+        let (start, _len) = bytes_of(self.count, self.size, at, count);
+        put(&mut self.bytes, start, payload);
+        true
     }
 
-    /// Appends the bytes of the `count` blocks from place `at`. It takes no memory where `bytes` has room for them.
-    #[inline(always)]
-    pub fn push_bytes(&self, at: usize, count: usize, bytes: &mut Vec<u8>) -> Result<(), NoMemory>
-        requires { at + count ≤ length self.now }
-        ensures { OnOk result
-            (bytes.new.items ≡ bytes.old.items ++ medium.joined (stretch_of at count self.now)) }
+    /// The same blocks, each kept by itself.
+    pub fn stored(&self, alloc: Global) -> Result<StoredBlocks, NoMemory>
+        ensures { IfOk result (λ blocks. blocks ≡ self.now) }
     {
-        let (from, len) = bytes_of(self.count, self.size, at, count);
         if self.bytes.is_empty() {
-            return push_zeroes(len, bytes);
+            return StoredBlocks::zeroed(alloc, self.count, self.size);
         }
-        bytes.extend_from_slice(&self.bytes[from..from + len])
-    }
-
-    /// Puts the bytes of the `count` blocks from place `at` into the buffer, which has room for exactly these, and says that none of them is marked.
-    #[inline(always)]
-    pub fn read_into(&self, at: usize, count: usize, buffer: &mut [u8]) -> bool
-        requires range { at + count ≤ length self.now }
-        requires room { medium.has_mark (stretch_of at count self.now) ≡ false
-            → length buffer.old ≡ length (medium.joined (stretch_of at count self.now)) }
-        ensures marked { result ≡ medium.has_mark (stretch_of at count self.now) }
-        ensures read { buffer.new ≡ medium.joined (stretch_of at count self.now) }
-        ensures none { result ≡ false }
-    {
-        let marked = self.has_mark(at, count);
-        self.copy_to(at, count, buffer);
-        marked
-    }
-
-    /// Puts the bytes of the `count` blocks from place `at` into the buffer, which has room for exactly these.
-    #[inline(always)]
-    fn copy_to(&self, at: usize, count: usize, buffer: &mut [u8])
-        requires range { at + count ≤ length self.now }
-        requires room { length buffer.old ≡ length (medium.joined (stretch_of at count self.now)) }
-        ensures { buffer.new ≡ medium.joined (stretch_of at count self.now) }
-    {
-        let (from, len) = bytes_of(self.count, self.size, at, count);
-        if self.bytes.is_empty() {
-            put_zeroes(buffer, 0, len);
-            return;
-        }
-        buffer.copy_from_slice(&self.bytes[from..from + len]);
+        StoredBlocks::of_bytes(alloc, self.count, self.size, &self.bytes)
     }
 }
 

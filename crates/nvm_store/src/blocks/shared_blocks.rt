@@ -1,5 +1,5 @@
 ghost use Rattle.std.specs.Prelude.{◌≡◌, ℕ, ◌+◌, ◌*◌, ◌-◌, ◌<◌, ◌≤◌, IfOk, OnErr, OnOk, false, length, replicate, true};
-ghost use Rattle.nvm_record.specs.declared.block.Block.TheVariants.{Bytes, Uncorrectable};
+ghost use Rattle.nvm_record.specs.declared.block.Block.TheVariants.{Uncorrectable};
 ghost use Rattle.nvm_record.specs.Lists.{IsAt};
 ghost use Rattle.nvm_record.specs.PayloadRef.{lent_bytes};
 ghost use Rattle.nvm_record.specs.Step.{block_at};
@@ -8,9 +8,9 @@ ghost use Rattle.nvm_store.specs.Inside.Source.{source_block, HasBlocks, IsFille
 
 mod reading;
 
+use crate::blocks::leaf::MOST_IN_PAGE;
 use crate::blocks::levels::{LEAF, Levels};
 use crate::blocks::source::Source;
-use crate::blocks::stretches;
 use nvm_record::{NoMemory, PayloadRef};
 use std::alloc::Global;
 use std::fmt;
@@ -76,8 +76,8 @@ impl SharedBlocks {
         })
     }
 
-    /// The `count` blocks from place `at` take the data, in blocks of `size` bytes. They share it, if it is shared. Else one that is alone
-    /// takes it into its own memory if it can, and several share a copy.
+    /// The `count` blocks from place `at` take the data, in blocks of `size` bytes. They share it, if it is shared. Else those of one leaf
+    /// take it into their own memory if they can, and others share a copy.
     #[inline(always)]
     pub fn write(
         &mut self,
@@ -92,13 +92,17 @@ impl SharedBlocks {
         ensures ok { OnOk result (IsRewritten at count (block_at size (lent_bytes payload.entry)) self.old self.new) }
         ensures err { OnErr result (self.new ≡ self.old) }
     {
-        if count == 1 && !payload.is_shared() && self.overwrite(at, payload.as_slice()) {
+        if count > 0
+            && !payload.is_shared()
+            && self.overwrite(at, count, size, payload.as_slice())
+        {
             return Ok(());
         }
         self.put_data(alloc, at, count, size, payload)
     }
 
-    /// The `count` blocks from place `at` take a share of the data, or of a copy.
+    /// The `count` blocks from place `at` take the data. They share it, if it is shared. Else one takes a copy, whole leaves of small blocks become
+    /// pages, and others share a copy. It is apart from `write`, which is small where it is called.
     #[inline(never)]
     fn put_data(
         &mut self,
@@ -116,7 +120,7 @@ impl SharedBlocks {
         if count == 1 {
             return self.set(alloc, at, &Source::Data { size, payload });
         }
-        let copy = if payload.is_shared() {
+        let copy = if payload.is_shared() || are_pages(at, count, size) {
             None
         } else {
             Some(payload.share(alloc)?)
@@ -169,25 +173,27 @@ impl SharedBlocks {
             return 0;
         };
         let stretch = self.stretch(from, most);
-        if stretches::are_kept_as_zero(stretch, size) {
-            stretch.len()
+        if stretch.leaf.are_kept_as_zero(stretch.at, stretch.len, size) {
+            stretch.len
         } else {
             0
         }
     }
 
-    /// Puts these bytes in the place of those of the block at place `at`, and says whether it did. It does where nobody shares its memory or its way
-    /// in the tree, and it has as many.
+    /// Overwrites the bytes of the `count` blocks from place `at` with the data, and says whether it did. It does where they are in one leaf and have this
+    /// size, and nobody shares their bytes or a node on the way to them.
     #[inline(always)]
-    fn overwrite(&mut self, at: usize, bytes: &[u8]) -> bool
-        requires { at < length self.old }
-        ensures taken { result ≡ true → IsRewritten at 1 (λ _. Bytes bytes.now) self.old self.new }
+    fn overwrite(&mut self, at: usize, count: usize, size: usize, payload: &[u8]) -> bool
+        requires some { 0 < count }
+        requires range { at + count ≤ length self.old }
+        requires payload { length payload.now ≡ count * size }
+        ensures taken { result ≡ true → IsRewritten at count (block_at size payload.now) self.old self.new }
         ensures left { result ≡ false → self.new ≡ self.old }
     {
-        self.levels.overwrite(at, bytes)
+        self.levels.overwrite(at, count, size, payload)
     }
 
-    /// Puts the source's first block at place `at`.
+    /// Puts the source's first block at place `at`, as `fill` would, which is less at once.
     fn set(&mut self, alloc: Global, at: usize, source: &Source<'_>) -> Result<(), NoMemory>
         requires range { at < length self.old }
         requires source { HasBlocks source.now 1 }
@@ -221,7 +227,7 @@ impl SharedBlocks {
 
     /// The `count` blocks from place `at` become the source's.
     ///
-    /// One block is put in place, and so are several of one leaf. Those of several leaves are put into a shared
+    /// Blocks of one leaf are put in place. Those of several leaves are put into a shared
     /// copy, which copies each node of their ways once, and takes this one's place where nothing was refused.
     fn fill(
         &mut self,
@@ -235,9 +241,6 @@ impl SharedBlocks {
         ensures ok { OnOk result (IsRewritten at count (source_block source.now) self.old self.new) }
         ensures err { OnErr result (self.new ≡ self.old) }
     {
-        if count == 1 {
-            return self.set(alloc, at, source);
-        }
         if count > 0 && count <= LEAF - at % LEAF {
             let done = self.fill_stretch(alloc, at, 0, count, count, source)?;
             if done > 0 {
@@ -272,4 +275,9 @@ impl SharedBlocks {
         }
         Ok(after)
     }
+}
+
+/// Whether the range has whole leaves alone, of blocks that are small enough for pages.
+fn are_pages(at: usize, count: usize, size: usize) -> bool {
+    size <= MOST_IN_PAGE && at % LEAF == 0 && count % LEAF == 0
 }

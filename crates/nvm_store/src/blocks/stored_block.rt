@@ -172,7 +172,7 @@ impl StoredBlock {
 
 /// Puts new bytes into the buffer from place `from` on, and answers where they end.
 #[inline(always)]
-fn put_bytes(buffer: &mut [u8], from: usize, new: &[u8]) -> usize
+pub fn put_bytes(buffer: &mut [u8], from: usize, new: &[u8]) -> usize
     requires { from + length new.now ≤ length buffer.old }
     ensures to { result ≡ from + length new.now }
     ensures put { take result buffer.new ≡ take from buffer.old ++ new.now }
@@ -204,7 +204,7 @@ pub fn push_zeroes(count: usize, bytes: &mut Vec<u8>) -> Result<(), NoMemory>
 }
 
 /// The data after these bytes, or `None` where it doesn't begin with them.
-fn behind_bytes<'a>(bytes: &[u8], payload: &'a [u8]) -> Option<&'a [u8]>
+pub fn behind_bytes<'a>(bytes: &[u8], payload: &'a [u8]) -> Option<&'a [u8]>
     ensures { MatchOption result
         ((rest : List ℕ) → bytes.now ++ rest ≡ payload.now → ⊥)
         (λ rest. bytes.now ++ rest.now ≡ payload.now) }
@@ -221,7 +221,7 @@ fn behind_bytes<'a>(bytes: &[u8], payload: &'a [u8]) -> Option<&'a [u8]>
 }
 
 /// The data after `size` zero bytes, or `None` where it doesn't begin with them.
-fn behind_zeroes(size: usize, payload: &[u8]) -> Option<&[u8]>
+pub fn behind_zeroes(size: usize, payload: &[u8]) -> Option<&[u8]>
     ensures { MatchOption result
         ((rest : List ℕ) → replicate size 0 ++ rest ≡ payload.now → ⊥)
         (λ rest. replicate size 0 ++ rest.now ≡ payload.now) }
