@@ -14,9 +14,10 @@ ghost use Rattle.nvm_trace.specs.TraceView.{TraceView};
 use crate::certifying_words::CertifyWords;
 use crate::failure::{Failure, plain};
 use crate::fault::Fault;
-use crate::files::{check_place, read_as_trace, write_bytes};
+use crate::files::read_as_trace;
 use crate::front::{Progress, STANDARD, Telling};
 use crate::told::Told;
+use crate::written_files::{check_place, write_bytes};
 use nvm_evidence::{
     OrderNumbers, contradiction_brief, contradiction_object, contradiction_text, explained_object,
     explained_text, most_together, unknown_object, unknown_text, write_contradiction, write_order,

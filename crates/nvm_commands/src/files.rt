@@ -1,25 +1,21 @@
-//! Records, traces and evidence as they are read from paths, what is written, and the failures of both.
+//! Records, traces and evidence as they are read from paths, and the failures of that.
 ghost use Rattle.std.specs.Prelude.{◌≡◌, ◌⊎◌, ℕ, true, List, Ok, IfOk, IfErr};
 ghost use Rattle.nvm_file.specs.Reading.{record_at};
 ghost use Rattle.nvm_file.specs.TraceFile.{IsTraceFile};
 ghost use Rattle.nvm_commands.specs.Audited.{IsInputTwice};
 ghost use Rattle.nvm_trace_text.specs.Texts.{IsTextOf};
 ghost use Rattle.nvm_commands.specs.Fault.{IsFaultOfEvidenceAt, IsFaultOfRecordAt, IsFaultOfRecordIn, IsFaultOfText, IsFaultOfTraceAs, IsFaultOfTraceAt, IsFaultOfTraceIn};
-ghost use Rattle.nvm_commands.specs.Files.{IsReadFault, IsWriteFault};
+ghost use Rattle.nvm_commands.specs.Files.{IsReadFault};
 ghost use Rattle.nvm_commands.specs.Traced.{SaysTrace, begins_as_file};
 
 use crate::conversion::{record_of, trace_of};
 use crate::failure::{Failure, of_file, of_text, plain};
 use crate::fault::Fault;
-use crate::front::{
-    FileFault, InputKind, Output, Progress, STANDARD, is_input, is_output, is_read, read_input,
-    write, write_run,
-};
+use crate::front::{FileFault, InputKind, Progress, is_input, read_input};
 use crate::hint::{Wanted, instead, refusal};
 use nvm_audit::Record;
 use nvm_evidence::{Evidence, HeldOrder, read_evidence, read_order};
-use nvm_file::write_host;
-use nvm_record::{Command, Payload};
+use nvm_record::Payload;
 use nvm_trace::Trace;
 use nvm_trace_text::trace_of_text;
 use std::alloc::{AllocError, Global};
@@ -171,136 +167,12 @@ pub fn check_apart(trace: &str, record: &str) -> Result<(), Failure>
     }
 }
 
-/// Writes bytes to a file, or to standard output.
-pub fn write_bytes<R: Files + AllocGlobal + Print + Eprint>(
-    rt: &R,
-    path: &str,
-    bytes: &[u8],
-    progress: &Progress<'_, R>,
-) -> Result<(), Failure>
-    ensures { IfErr result (λ failure. IsWriteFault path.now failure.fault) }
-{
-    made(rt.alloc(), path, write(rt, path, bytes, progress))
-}
-
-/// Writes the host file of commands to a file, or to standard output.
-pub fn write_host_file<R: Files + AllocGlobal + Print + Eprint>(
-    rt: &R,
-    path: &str,
-    commands: &[Command],
-    progress: &Progress<'_, R>,
-) -> Result<(), Failure>
-    ensures { IfErr result (λ failure. IsWriteFault path.now failure.fault) }
-{
-    made(
-        rt.alloc(),
-        path,
-        host_file_written(rt, path, commands, progress),
-    )
-}
-
-/// The same. A file appears whole or not at all.
-fn host_file_written<R: Files + AllocGlobal + Print + Eprint>(
-    rt: &R,
-    path: &str,
-    commands: &[Command],
-    progress: &Progress<'_, R>,
-) -> Result<(), FileFault> {
-    progress.clear();
-    let mut output = Output::new(rt, path, progress)?;
-    write_host(&mut output, commands)?;
-    output.finish()
-}
-
-/// Writes the record's file. It appears whole or not at all.
-pub fn keep<R: AllocGlobal + Files + Print + Eprint>(
-    rt: &R,
-    path: &str,
-    run: &Record,
-    progress: &Progress<'_, R>,
-) -> Result<(), Failure>
-    ensures { IfErr result (λ failure. IsWriteFault path.now failure.fault) }
-{
-    made(rt.alloc(), path, write_run(rt, path, run, progress))
-}
-
-/// Refuses a path to write at which the file to read is, before anything is read. The hint below the fault says why.
-pub fn check_output<R: Files + AllocGlobal>(
-    rt: &R,
-    out: &str,
-    read: &str,
-    why: &'static str,
-) -> Result<(), Failure>
-    ensures { IfErr result (λ failure. IsWriteFault out.now failure.fault) }
-{
-    if out != STANDARD && is_read(rt, out, read)? {
-        return Err(unwritten(rt.alloc(), out, Some(why)));
-    }
-    Ok(())
-}
-
-/// Refuses a path to write that is the file which standard output goes to, before anything is written.
-fn check_no_lines<R: Files + AllocGlobal>(rt: &R, out: &str) -> Result<(), Failure>
-    ensures { IfErr result (λ failure. IsWriteFault out.now failure.fault) }
-{
-    if is_output(rt, out)? {
-        let why = Some("standard output goes there, with the lines");
-        return Err(unwritten(rt.alloc(), out, why));
-    }
-    Ok(())
-}
-
-/// Refuses a path to write at which one of the files to read is, or which is standard output's.
-pub fn check_place<R: Files + AllocGlobal>(
-    rt: &R,
-    out: &str,
-    read: &[String],
-    why: &'static str,
-) -> Result<(), Failure>
-    ensures { IfErr result (λ failure. IsWriteFault out.now failure.fault) }
-{
-    for path in read {
-        check_output(rt, out, path.as_str(), why)?;
-    }
-    check_no_lines(rt, out)
-}
-
-/// What came of a file that was to be written to a path.
-pub fn made(alloc: Global, path: &str, written: Result<(), FileFault>) -> Result<(), Failure>
-    ensures { IfErr result (λ failure. IsWriteFault path.now failure.fault) }
-{
-    match written {
-        Ok(()) => Ok(()),
-        Err(fault) => Err(unmade(alloc, path, fault)),
-    }
-}
-
-/// The failure of a file that couldn't be made. Want of memory isn't the file's fault.
-pub fn unmade(alloc: Global, path: &str, fault: FileFault) -> Failure
-    ensures { IsWriteFault path.now result.fault }
-{
-    match fault {
-        FileFault::NoMemory => Failure::from(AllocError),
-        FileFault::Refused(kind) => unwritten(alloc, path, refusal(kind)),
-    }
-}
-
 /// The failure of a file that can't be read, or want of memory for its path. The hint below the fault says why.
 pub fn unread(alloc: Global, path: &str, why: Option<&'static str>) -> Failure
     ensures { IsReadFault path.now result.fault }
 {
     match String::from_str(alloc, path) {
         Ok(path) => Failure::because(Fault::CannotRead { path }, why),
-        Err(error) => Failure::from(error),
-    }
-}
-
-/// The failure of a file that can't be written, or want of memory for its path. The hint below the fault says why.
-pub fn unwritten(alloc: Global, path: &str, why: Option<&'static str>) -> Failure
-    ensures { IsWriteFault path.now result.fault }
-{
-    match String::from_str(alloc, path) {
-        Ok(path) => Failure::because(Fault::CannotWrite { path }, why),
         Err(error) => Failure::from(error),
     }
 }

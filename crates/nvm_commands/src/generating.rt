@@ -6,9 +6,9 @@ ghost use Rattle.nvm_commands.specs.Generated.{AreListsOfLoad, IsGeneratingFault
 
 use crate::failure::{Failure, of_run};
 use crate::fault::Fault;
-use crate::files::{made, unmade, unwritten};
 use crate::front::{FileFault, Output, Progress, is_one_output};
 use crate::generating_words::GenerateWords;
+use crate::written_files::{made, unmade, unwritten};
 use nvm_generate::{Load, list_of_load};
 use nvm_geometry::Geometry;
 use nvm_plan::MOST_HOSTS;

@@ -37,6 +37,7 @@ mod told;
 mod told_run;
 mod tracing;
 mod words;
+mod written_files;
 
 pub use commands::{NVQ, nvq_status};
 pub use front::Progress;

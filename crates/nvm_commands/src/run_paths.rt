@@ -6,9 +6,9 @@ ghost use Rattle.nvm_commands.specs.RunFaults.{FitNames, IsKeepingFault, IsNames
 
 use crate::failure::{Failure, plain};
 use crate::fault::Fault;
-use crate::files::check_place;
 use crate::front::{STANDARD, is_input};
 use crate::running_words::RunWords;
+use crate::written_files::check_place;
 use std::rt::Files;
 
 /// Standard input is named at most once, and standard output isn't the record's.

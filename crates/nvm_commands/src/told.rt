@@ -3,8 +3,8 @@ ghost use Rattle.std.specs.Prelude.{◌≡◌, IfOk, IfErr, codes, string_bytes}
 ghost use Rattle.nvm_commands.specs.Files.{IsWriteFault};
 
 use crate::failure::Failure;
-use crate::files::write_bytes;
 use crate::front::{Progress, STANDARD};
+use crate::written_files::write_bytes;
 use std::rt::Files;
 
 /// A text, and the exit status once it is printed.

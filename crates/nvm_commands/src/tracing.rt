@@ -6,8 +6,9 @@ ghost use Rattle.nvm_commands.specs.Fault.{IsFaultOfText};
 ghost use Rattle.nvm_commands.specs.Files.{IsTracingFault};
 
 use crate::failure::Failure;
-use crate::files::{bytes_of, check_output, trace_of_lines, write_bytes};
+use crate::files::{bytes_of, trace_of_lines};
 use crate::front::{InputKind, Progress};
+use crate::written_files::{check_output, write_bytes};
 use nvm_file::write_trace;
 use std::alloc::{AllocError, Global};
 use std::rt::Files;

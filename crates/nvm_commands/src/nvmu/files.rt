@@ -4,8 +4,9 @@ ghost use Rattle.nvm_commands.specs.Files.{IsReadingFault, IsWriteFault};
 ghost use Rattle.nvm_commands.specs.Nvmu.Judged.{IsPairFault};
 
 use crate::failure::Failure;
-use crate::files::{check_place, payload_of, unread, unwritten};
+use crate::files::{payload_of, unread};
 use crate::front::{InputKind, Progress, STANDARD, is_input};
+use crate::written_files::{check_place, unwritten};
 use nvm_record::Payload;
 use std::rt::Files;
 

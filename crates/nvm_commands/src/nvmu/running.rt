@@ -5,9 +5,9 @@ ghost use Rattle.nvm_commands.specs.Nvmu.Runs.{IsShownOn, IsRunFault, IsRunFault
 
 use crate::failure::{Failure, plain};
 use crate::fault::Fault;
-use crate::files::keep;
 use crate::front::Progress;
 use crate::nvmu::files::{check_record, read_files};
+use crate::written_files::keep;
 use nvm_engine::{Settings, Shown, execute_watched};
 use nvm_record::Payload;
 use std::rt::Files;
