@@ -8,7 +8,8 @@
  * Inside, a large namespace has up to 4,096 regions of whole atomic units, so windows lie around the first LBAs of regions, and at both ends. What
  * lies beside a window must stay zeroes. With --times it tells on standard error how long it takes to open and close, and how much is resident then.
  * With --memory it only writes 100 MB, in commands of N blocks that are spread over 2^31 blocks, and prints the resident memory; with --count it only
- * does so many commands of N blocks within units of 8 at 1,000 LBAs, for a profiler. It ends with 1 at the first wrong answer, and says what is wrong with it. */
+ * does so many commands of N blocks at 1,000 LBAs, within units of 8 that were written before, for a profiler. It ends with 1 at the first wrong answer, and
+ * says what is wrong with it. */
 #include <sched.h>
 #include <stdarg.h>
 #include <stdbool.h>
@@ -685,7 +686,7 @@ static void show_memory(uint32_t blocks)
            (unsigned long long)count, blocks, (unsigned long long)count * blocks * 512, before, after, zeroed, resident_bytes());
 }
 
-/* Does so many commands of up to 8 blocks at 1,000 LBAs, each within a unit that was written before. */
+/* Does so many commands of up to 8 blocks at 1,000 LBAs, each within a unit that was written as a whole before. */
 static void do_commands(uint64_t count, const char *of, uint64_t nsze, uint32_t blocks)
 {
     enum { LBAS = 1000, UNIT = 8 };
@@ -697,9 +698,12 @@ static void do_commands(uint64_t count, const char *of, uint64_t nsze, uint32_t 
     memset(given, 0x5a, DATA);
     for (int i = 0; i < LBAS; i++) {
         lbas[i] = (nsze / LBAS * (uint64_t)i + below(nsze / LBAS - UNIT)) / UNIT * UNIT + below(UNIT + 1 - blocks);
-        entry_of(entries, WRITE, 0, 1, lbas[i], blocks);
-        put_little(given, 8, 0);
-        MUST(zk_submit(ports, entries, ZK_ENTRY_BYTES, given, length, told, ZK_COMPLETION_BYTES) == ZK_DONE && status_of(told) == 0);
+        uint64_t first = lbas[i] / UNIT * UNIT;
+        uint8_t *number = given + (lbas[i] - first) * 512;
+        entry_of(entries, WRITE, 0, 1, first, UNIT);
+        put_little(number, 8, 0);
+        MUST(zk_submit(ports, entries, ZK_ENTRY_BYTES, given, UNIT * 512, told, ZK_COMPLETION_BYTES) == ZK_DONE && status_of(told) == 0);
+        memset(number, 0x5a, 8);
     }
     for (int kind = 0; kind < 3; kind++) {
         static const char *const names[] = { "writes", "reads", "pairs" };

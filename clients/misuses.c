@@ -766,6 +766,45 @@ static bool large_units(void)
     return right;
 }
 
+/* In such a unit eight blocks that were written at once are in one piece of memory: then no Write in them takes any, and a Write Zeroes of all eight gives it
+ * back. Where memory is refused at the nth time to a Write of two such pieces, or to a mark in one, all blocks are as they were. */
+static bool pages(void)
+{
+    enum { BLOCKS = 256, PAGE = 8 };
+    static const struct zk_namespace large = { BLOCKS, BLOCK, BLOCKS - 1, 0, BLOCKS - 1, BLOCKS - 1 };
+    static uint8_t data[2 * PAGE * BLOCK], read[2 * PAGE * BLOCK], zeroes[2 * PAGE * BLOCK];
+    if (zk_open(ports, 1, &large, ZK_NO_LIMIT, false) != ZK_DONE)
+        return false;
+    memset(data, 7, sizeof data);
+    bool right = true;
+    for (int is_mark = 0; is_mark < 2; is_mark++) {
+        bool done = false;
+        for (unsigned nth = 1; right && !done; nth++) {
+            refuses_from = nth;
+            int status = is_mark ? status_after(WRITE_UNCORRECTABLE, PAGE + 1, 1, NULL, 0) : status_after(WRITE, PAGE, 2 * PAGE, data, sizeof data);
+            done = refuses_from != 0;
+            refuses_from = 0;
+            refuses = false;
+            right = nth < 64 && (done ? status == 0 : status == 0x006 || status == -1);
+            if (!done)
+                right &= status_after(COMPARE, PAGE, 2 * PAGE, is_mark ? data : zeroes, sizeof data) == 0;
+        }
+        if (is_mark || !right)
+            break;
+        refuses = true;
+        memset(data + 2 * BLOCK, 5, 4 * BLOCK);
+        right = status_after(WRITE, PAGE + 2, 4, data + 2 * BLOCK, 4 * BLOCK) == 0 && status_after(COMPARE, PAGE, 2 * PAGE, data, sizeof data) == 0;
+        right &= status_after(WRITE, PAGE, PAGE, data, PAGE * BLOCK) == 0 && status_after(WRITE_ZEROES, 2 * PAGE, PAGE, NULL, 0) == 0;
+        memset(data + PAGE * BLOCK, 0, PAGE * BLOCK);
+        right &= status_after(READ, PAGE, 2 * PAGE, read, sizeof read) == 0 && memcmp(read, data, sizeof read) == 0;
+        refuses = false;
+    }
+    right &= status_after(READ, PAGE, 2, read, 2 * BLOCK) == 0x281 && status_after(COMPARE, PAGE, 1, data, BLOCK) == 0;
+    right &= status_after(COMPARE, PAGE + 2, PAGE, data + 2 * BLOCK, PAGE * BLOCK) == 0;
+    zk_close(ports);
+    return right;
+}
+
 /* A Write and a pair that have to wait keep their data, whatever becomes of the caller's. */
 static bool waiting_keeps_its_data(void)
 {
@@ -1045,6 +1084,10 @@ int main(int words, char **word)
     }
     if (!large_units()) {
         fprintf(stderr, "misuses: a unit of more than 65,536 bytes that takes memory, or leaves half a Write\n");
+        right = false;
+    }
+    if (!pages()) {
+        fprintf(stderr, "misuses: blocks in one piece of memory in a unit of more than 65,536 bytes that take memory, or of which half is written\n");
         right = false;
     }
     if (!waiting_keeps_its_data()) {
