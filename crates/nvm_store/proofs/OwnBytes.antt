@@ -259,7 +259,7 @@ zeroed_cut size n s at count bytes sized whole within =
       others = put.others;
     }
 
-at_replicate : (n : ℕ) (b : Block) (i : ℕ) → i < n → IsAt (replicate n b) i b
+pub at_replicate : (n : ℕ) (b : Block) (i : ℕ) → i < n → IsAt (replicate n b) i b
 at_replicate zero b i lt = absurd (omega arith)
 at_replicate (suc n) b zero lt = refl
 at_replicate (suc n) b (suc i) lt = at_replicate n b i (omega arith)
@@ -428,25 +428,3 @@ cut_front (suc n) s bytes =
     let front : take s (take (s + n * s) bytes) ≡ take s bytes = take-take s (s + n * s) bytes (omega arith) in
     let rest : drop s (take (s + n * s) bytes) ≡ take (n * s) (drop s bytes) = drop-take s (n * s) bytes in
     rw (more n s, front, rest) (ap (λ (l : List Block). Bytes (take s bytes) ∷ l) (cut_front n s (drop s bytes)))
-
--- Blocks whose bytes are zero are zero.
-pub zero_part : (count size : ℕ) (bytes : List ℕ) (view : List Block) (at n from len : ℕ) → cut count size (kept_bytes (count * size) bytes) ≡ view
-    → (bytes ≡ []) ⊎ (length bytes ≡ count * size) → (length bytes ≡ 0 → ⊥) → at + n ≤ length view → from ≡ at * size → len ≡ n * size
-    → take (from + len - from) (drop from bytes) ≡ replicate (length (take (from + len - from) (drop from bytes))) 0
-    → All (λ block. block ≡ zero_block size) (stretch_of at n view)
-zero_part count size bytes view at n from len is whole some range from_is len_is are_zero =
-    let kept = all_kept (count * size) bytes whole some in
-    let within = within_own count size (kept_bytes (count * size) bytes) view (at + n) is range in
-    let just : from + len - from ≡ n * size = omega (arith, len_is) in
-    let all : length bytes ≡ count * size = ap length (sym kept) ∙ length_kept (count * size) bytes whole in
-    let span = span_within count size at n within in
-    let left : length (drop (at * size) bytes) ≡ length bytes - at * size = length-drop (at * size) bytes in
-    let few : n * size ≤ length (drop (at * size) bytes) = omega (arith, left, all, span) in
-    let part : take (from + len - from) (drop from bytes) ≡ take (n * size) (drop (at * size) bytes) =
-    ap (λ (k : ℕ). take k (drop from bytes)) just ∙ ap (λ (k : ℕ). take (n * size) (drop k bytes)) from_is in
-    let same : length (take (from + len - from) (drop from bytes)) ≡ n * size = ap length part ∙ length-take-le (n * size) (drop (at * size) bytes) few in
-    let zeroes : take (n * size) (drop (at * size) bytes) ≡ replicate (n * size) 0 = sym part ∙ are_zero ∙ ap (λ (k : ℕ). replicate {A = ℕ} k 0) same in
-    let blocks : stretch_of at n view ≡ replicate n (zero_block size) =
-    ap (λ (v : List Block). stretch_of at n v) (sym is ∙ ap (λ (l : List ℕ). cut count size l) kept)
-    ∙ stretch_cut at n count size bytes within ∙ sym (cut_front n size (drop (at * size) bytes)) ∙ ap (λ (l : List ℕ). cut n size l) zeroes ∙ zeroes_cut n size in
-    rw blocks (All-replicate (λ block. block ≡ zero_block size) n (zero_block size) refl)

@@ -1,9 +1,9 @@
 -- The blocks of parts of one span, joined: where a place lies, and what a change there does.
-use Rattle.std.proofs.Common.{◌≡◌, ℕ, zero, suc, ◌+◌, ◌-◌, ◌*◌, ◌/◌, ◌%◌, ◌<◌, ◌≤◌, List, [], ◌∷◌, ◌++◌, length, get_or, take, drop, replicate, Bool, true, false, refl, sym, ap, ◌∙◌, arith, inl, inr}
+use Rattle.std.proofs.Common.{◌≡◌, ℕ, zero, suc, ◌+◌, ◌*◌, ◌/◌, ◌%◌, ◌<◌, ◌≤◌, List, [], ◌∷◌, ◌++◌, length, get_or, take, drop, replicate, Bool, true, false, refl, sym, ap, ◌∙◌, arith, inl, inr}
 use Rattle.std.proofs.Math.ListN.{set, length-take}
 use Rattle.std.proofs.Math.Nat.{div-add-mod}
 use Rattle.std.proofs.Math.Seq.{drop-append-add, map-set_same}
-use Rattle.std.proofs.lemmas.List.{drop-append-le, take-append-le, set-append_left, set-append_right, length-append, length-map, get_or-map, map-set, map-append, take_more, replicate-append-replicate}
+use Rattle.std.proofs.lemmas.List.{drop-append-le, take-append-le, length-append, length-map, get_or-map, map-set, map-append, take_more, replicate-append-replicate}
 use Rattle.std.proofs.lemmas.Nat.{div_below, mod_below}
 use Rattle.std.specs.Prelude.{Result, Ok, Err, IfOk, OnErr, OnOk}
 use Rattle.std.specs.Arc.{arc_value}
@@ -52,22 +52,6 @@ drop-joined_parts span (p ∷ ps) (suc k) r at spans lt rt e =
     let there : at ≡ length p + (k * span + r) = grind (arith, len, e) in
     rw there (drop-append-add p (joined_parts ps) (k * span + r)
     ∙ drop-joined_parts span ps k r (k * span + r) spans.1 (omega arith) rt refl)
-
--- a change at a place of the k-th part
-pub set-joined_parts : (span : ℕ) (parts : List (List Block)) (k r at : ℕ) (x : Block) → AreOfSpan span parts → k < length parts → r < span
-    → at ≡ k * span + r → set (joined_parts parts) at x ≡ joined_parts (set parts k (set (get_or parts k []) r x))
-set-joined_parts span [] k r at x spans lt rt e = absurd (omega arith)
-set-joined_parts span (p ∷ ps) zero r at x spans lt rt e =
-    let len : length p ≡ span = spans.0 in
-    let here : at ≡ r = omega arith in
-    rw here (set-append_left p (joined_parts ps) r x (omega arith))
-set-joined_parts span (p ∷ ps) (suc k) r at x spans lt rt e =
-    let len : length p ≡ span = spans.0 in
-    let there : at ≡ span + (k * span + r) = grind (arith, e) in
-    let rest : at - span ≡ k * span + r = omega arith in
-    set-append_right p (joined_parts ps) span at x len (omega arith)
-    ∙ ap (λ (n : ℕ). p ++ set (joined_parts ps) n x) rest
-    ∙ ap (λ (bs : List Block). p ++ bs) (set-joined_parts span ps k r (k * span + r) x spans.1 (omega arith) rt refl)
 
 -- A range of the k-th part is rewritten.
 pub rewritten-joined_parts : (span : ℕ) (parts : List (List Block)) (k r at n : ℕ) (news : ℕ → Block) (part : List Block) → AreOfSpan span parts

@@ -105,11 +105,11 @@ rewritten_same at n news others old new same put = record {
 }
 
 -- Where all blocks are new, it doesn't matter which there were.
-pub rewritten_all : (n : ℕ) (news : ℕ → Block) (mid old new : List Block) → length mid ≡ n → length old ≡ n → IsRewritten 0 n news mid new
-    → IsRewritten 0 n news old new
-rewritten_all n news mid old new count same put = record {
-  len = put.len ∙ count ∙ sym same;
-  rewritten = put.rewritten;
+pub rewritten_all : (n : ℕ) (news : ℕ → Block) (old new : List Block) → length new ≡ n → length old ≡ n
+    → ((i : ℕ) → i < n → IsAt new i (news i)) → IsRewritten 0 n news old new
+rewritten_all n news old new count same at = record {
+  len = count ∙ sym same;
+  rewritten = λ i lt. let here : 0 + i ≡ i = omega arith in rw here (at i lt);
   others =
       λ j block out is.
       let below : j < length old = at_below old j block is in

@@ -68,20 +68,23 @@ impl Blocks {
     pub fn zeroed(alloc: Global, count: usize, size: usize) -> Result<Blocks, NoMemory>
         ensures { IfOk result (λ blocks. blocks ≡ replicate count (zero_block size)) }
     {
-        let blocks = SharedBlocks::zeroed(alloc, count, size)?;
+        let blocks = SharedBlocks::zeroed(alloc, count, size, false)?;
         Ok(Blocks {
             memory: Memory::Shared(blocks),
         })
     }
 
-    /// The same, in one piece of memory if they have at most `MOST_OWN_BYTES`, which is asked for when the first of them is written
-    /// and given back when all of them are zeroed at once.
+    /// The same, to be changed in place. They are in one piece of memory if they have at most `MOST_OWN_BYTES`, which is asked for when the first of them is
+    /// written and given back when all of them are zeroed at once, and else in a tree, whose whole leaves may become pages.
     pub fn own(alloc: Global, count: usize, size: usize) -> Result<Blocks, NoMemory>
         requires { count * size < 2 ^ 63 }
         ensures { IfOk result (λ blocks. blocks ≡ replicate count (zero_block size)) }
     {
         if count * size > MOST_OWN_BYTES {
-            return Blocks::zeroed(alloc, count, size);
+            let blocks = SharedBlocks::zeroed(alloc, count, size, true)?;
+            return Ok(Blocks {
+                memory: Memory::Shared(blocks),
+            });
         }
         let blocks = OwnBlocks::zeroed(alloc, count, size);
         Ok(Blocks {

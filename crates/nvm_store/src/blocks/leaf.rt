@@ -15,10 +15,10 @@ use std::alloc::Global;
 use std::marker::Model;
 use std::sync::Arc;
 
+/// The most blocks of a leaf.
+pub const LEAF: usize = 8;
 /// The most bytes of a block that a page has: eight of them are 4 KiB.
 pub const MOST_IN_PAGE: usize = 512;
-/// The most blocks that a page has.
-const MOST_BLOCKS: usize = 8;
 
 /// The lowest node.
 #[derive(Drop)]
@@ -31,7 +31,8 @@ pub struct Leaf {
 pub enum LeafBlocks {
     /// Each by itself, so that its data can be shared, or it can be marked.
     Stored(StoredBlocks),
-    /// As a page: in one piece of memory. They are so from when all of them are written at once, with data that nobody shares.
+    /// As a page: in one piece of memory. They are so from when all of them are written at once, with data that nobody shares. Where all of them are
+    /// zeroed at once, they are a page without memory.
     Page(OwnBlocks),
 }
 
@@ -175,8 +176,8 @@ impl Tree for Leaf {
     }
 }
 
-/// `count` of the source's blocks, from place `from` on, as a page: of data that nobody shares, of which they are few and small enough. `None` of
-/// any other source.
+/// `count` of the source's blocks, from place `from` on, as a page: of data that nobody shares, or without memory of zeroes. `None` of any other source, and
+/// where they are too many or too large.
 fn page_of(
     alloc: Global,
     count: usize,
@@ -187,23 +188,30 @@ fn page_of(
     ensures { IfOk result (λ found. IfSome found (λ page. (old : List Block) → length old ≡ count
         → IsRewritten 0 count (λ i. source_block source.now (from + i)) old page)) }
 {
-    let Source::Data { size, payload } = *source else {
-        return Ok(None);
-    };
-    if payload.is_shared() || size > MOST_IN_PAGE || count > MOST_BLOCKS {
-        return Ok(None);
+    match *source {
+        Source::Data { size, payload } => {
+            if payload.is_shared() || size > MOST_IN_PAGE || count > LEAF {
+                return Ok(None);
+            }
+            // A length fits, so each place up to it does.
+            let _len = payload.len();
+            let first = from * size;
+            let part = payload.part(first, first + count * size);
+            let page = OwnBlocks::of_bytes(alloc, count, size, part.as_slice())?;
+            Ok(Some(page))
+        }
+        Source::Zeroes { size } => {
+            if size > MOST_IN_PAGE || count > LEAF {
+                return Ok(None);
+            }
+            Ok(Some(OwnBlocks::zeroed(alloc, count, size)))
+        }
+        Source::Marks => Ok(None),
     }
-    // A length fits, so each place up to it does.
-    let _len = payload.len();
-    let mut page = OwnBlocks::zeroed(alloc, count, size);
-    let first = from * size;
-    let part = payload.part(first, first + count * size);
-    page.write(0, count, size, part.as_slice())?;
-    Ok(Some(page))
 }
 
 /// Puts `count` of the source's blocks, from place `from` on, at the places from `at` on of a page, and says whether it did: it doesn't where they are
-/// marks, or of another size. Where memory is refused, all blocks are as they were.
+/// marks, or of another size, or data for a page without memory. Where memory is refused, all blocks are as they were.
 fn put_in_page(
     page: &mut OwnBlocks,
     alloc: Global,
@@ -221,7 +229,7 @@ fn put_in_page(
 {
     match *source {
         Source::Data { size, payload } => {
-            if !page.has_size(size) {
+            if !page.has_size(size) || page.is_without_memory() {
                 return Ok(false);
             }
             // A length fits, so each place up to it does.

@@ -6,15 +6,13 @@ ghost use Rattle.nvm_store.specs.Inside.Source.{HasBlocks, IsFilled, source_bloc
 ghost use Rattle.nvm_store.specs.Inside.Tree.{IsStretch};
 
 use crate::blocks::fork::Fork;
-use crate::blocks::leaf::Leaf;
+use crate::blocks::leaf::{LEAF, Leaf};
 use crate::blocks::source::Source;
 use crate::blocks::tree::{Tree, fill_in, overwrite_in, set_in};
 use nvm_record::NoMemory;
 use std::alloc::Global;
 use std::sync::Arc;
 
-/// The most blocks of a leaf.
-pub const LEAF: usize = 8;
 /// How many children a fork over leaves, or over forks over leaves, has that isn't the top.
 const CHILDREN: usize = 16;
 /// The blocks of a fork over leaves that isn't the top.

@@ -1,7 +1,7 @@
 ghost use Rattle.std.specs.Prelude.{◌≡◌, ◌⊎◌, ◌+◌, ◌*◌, ◌≤◌, [], IfOk, OnErr, OnOk, false, length, replicate, true};
 ghost use Rattle.std.specs.Bool.{OnTrue};
 ghost use Rattle.nvm_record.specs.Step.{block_at};
-ghost use Rattle.nvm_store.specs.Inside.Own.{kept_bytes, with_bytes};
+ghost use Rattle.nvm_store.specs.Inside.Own.{cut, kept_bytes, with_bytes};
 ghost use Rattle.nvm_store.specs.Inside.Rewrite.{IsRewritten, zero_block};
 ghost use Rattle.nvm_store.specs.Inside.Sound.{AreOfSize};
 
@@ -13,7 +13,7 @@ use nvm_record::{NoMemory, PayloadRef};
 use std::alloc::Global;
 use std::marker::Model;
 
-/// The blocks of one unit in one piece of memory that is theirs alone, none of them marked. Contracts see their list.
+/// The blocks of one unit, or of one leaf of a tree, in one piece of memory that is theirs alone, none of them marked. Contracts see their list.
 ///
 /// A change works in place, and only the first asks for memory.
 #[derive(Drop)]
@@ -50,6 +50,30 @@ impl OwnBlocks {
         }
     }
 
+    /// `count` blocks of `size` bytes, which are these, one block after the other. They are copied.
+    pub fn of_bytes(
+        alloc: Global,
+        count: usize,
+        size: usize,
+        bytes: &[u8],
+    ) -> Result<OwnBlocks, NoMemory>
+        requires few { count * size ≤ 65536 }
+        requires bytes { length bytes.now ≡ count * size }
+        ensures { IfOk result (λ blocks. blocks ≡ cut count size bytes.now) }
+    {
+        Ok(OwnBlocks {
+            size,
+            count,
+            bytes: Vec::from_slice(alloc, bytes)?,
+        })
+    }
+
+    /// Whether their memory wasn't asked for, or was given back, so that all of them are zero bytes.
+    #[inline(always)]
+    pub fn is_without_memory(&self) -> bool {
+        self.bytes.is_empty()
+    }
+
     /// How many blocks there are.
     pub fn len(&self) -> usize
         ensures { result ≡ length self.now }
@@ -72,7 +96,7 @@ impl OwnBlocks {
     pub fn shared(&self, alloc: Global) -> Result<SharedBlocks, NoMemory>
         ensures { IfOk result (λ blocks. blocks ≡ self.now) }
     {
-        let mut blocks = SharedBlocks::zeroed(alloc, self.count, self.size)?;
+        let mut blocks = SharedBlocks::zeroed(alloc, self.count, self.size, true)?;
         if self.bytes.is_empty() {
             return Ok(blocks);
         }

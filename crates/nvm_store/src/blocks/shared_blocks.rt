@@ -8,8 +8,8 @@ ghost use Rattle.nvm_store.specs.Inside.Source.{source_block, HasBlocks, IsFille
 
 mod reading;
 
-use crate::blocks::leaf::MOST_IN_PAGE;
-use crate::blocks::levels::{LEAF, Levels};
+use crate::blocks::leaf::{LEAF, MOST_IN_PAGE};
+use crate::blocks::levels::Levels;
 use crate::blocks::source::Source;
 use nvm_record::{NoMemory, PayloadRef};
 use std::alloc::Global;
@@ -26,6 +26,8 @@ use std::marker::Model;
 pub struct SharedBlocks {
     levels: Levels,
     count: usize,
+    /// Whether whole leaves of small blocks become pages, since nobody else has their data.
+    pages: bool,
 }
 
 impl Model for SharedBlocks {
@@ -49,12 +51,21 @@ impl Debug for SharedBlocks {
 
 impl SharedBlocks {
     /// `count` blocks of `size` zero bytes. They share one leaf, so they take the memory of one path of the
-    /// tree.
-    pub fn zeroed(alloc: Global, count: usize, size: usize) -> Result<SharedBlocks, NoMemory>
+    /// tree. With `pages` their data isn't to be shared with the commands that bring it.
+    pub fn zeroed(
+        alloc: Global,
+        count: usize,
+        size: usize,
+        pages: bool,
+    ) -> Result<SharedBlocks, NoMemory>
         ensures { IfOk result (λ blocks. blocks ≡ replicate count (zero_block size)) }
     {
         let levels = Levels::zeroed(alloc, count, size)?;
-        Ok(SharedBlocks { levels, count })
+        Ok(SharedBlocks {
+            levels,
+            count,
+            pages,
+        })
     }
 
     /// How many blocks there are.
@@ -73,11 +84,12 @@ impl SharedBlocks {
         Ok(SharedBlocks {
             levels,
             count: self.count,
+            pages: self.pages,
         })
     }
 
-    /// The `count` blocks from place `at` take the data, in blocks of `size` bytes. They share it, if it is shared. Else those of one leaf
-    /// take it into their own memory if they can, and others share a copy.
+    /// The `count` blocks from place `at` take the data, in blocks of `size` bytes. They share it, if it is shared and they are no pages. Else those of one
+    /// leaf take it into their own memory if they can, and others take or share a copy.
     #[inline(always)]
     pub fn write(
         &mut self,
@@ -93,7 +105,7 @@ impl SharedBlocks {
         ensures err { OnErr result (self.new ≡ self.old) }
     {
         if count > 0
-            && !payload.is_shared()
+            && (!payload.is_shared() || self.has_pages(size))
             && self.overwrite(at, count, size, payload.as_slice())
         {
             return Ok(());
@@ -101,8 +113,14 @@ impl SharedBlocks {
         self.put_data(alloc, at, count, size, payload)
     }
 
-    /// The `count` blocks from place `at` take the data. They share it, if it is shared. Else one takes a copy, whole leaves of small blocks become
-    /// pages, and others share a copy. It is apart from `write`, which is small where it is called.
+    /// Whether whole leaves of blocks of `size` bytes become pages.
+    #[inline(always)]
+    fn has_pages(&self, size: usize) -> bool {
+        self.pages && size <= MOST_IN_PAGE
+    }
+
+    /// The `count` blocks from place `at` take the data. Where whole leaves become pages, one block, and each of whole leaves, takes a copy. Else they share
+    /// the data, or a copy where nobody shares it. It is apart from `write`, which is small where it is called.
     #[inline(never)]
     fn put_data(
         &mut self,
@@ -120,7 +138,11 @@ impl SharedBlocks {
         if count == 1 {
             return self.set(alloc, at, &Source::Data { size, payload });
         }
-        let copy = if payload.is_shared() || are_pages(at, count, size) {
+        if self.has_pages(size) && at % LEAF == 0 && count % LEAF == 0 {
+            let payload = PayloadRef::of(payload.as_slice());
+            return self.fill(alloc, at, count, &Source::Data { size, payload });
+        }
+        let copy = if payload.is_shared() {
             None
         } else {
             Some(payload.share(alloc)?)
@@ -275,9 +297,4 @@ impl SharedBlocks {
         }
         Ok(after)
     }
-}
-
-/// Whether the range has whole leaves alone, of blocks that are small enough for pages.
-fn are_pages(at: usize, count: usize, size: usize) -> bool {
-    size <= MOST_IN_PAGE && at % LEAF == 0 && count % LEAF == 0
 }

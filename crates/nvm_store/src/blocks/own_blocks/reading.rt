@@ -113,7 +113,8 @@ impl OwnBlocks {
         behind_bytes(&self.bytes[start..start + len], payload)
     }
 
-    /// Whether the `count` blocks from place `at` are `size` zero bytes each as they are kept.
+    /// Whether the `count` blocks from place `at` are `size` zero bytes each as they are kept, which takes no memory. Where their memory is kept, they
+    /// aren't, whatever their bytes are.
     pub fn are_kept_as_zero(&self, at: usize, count: usize, size: usize) -> bool
         requires { at + count ≤ length self.now }
         ensures { OnTrue result (All (λ block. block ≡ zero_block size) (stretch_of at count self.now)) }
@@ -124,7 +125,6 @@ impl OwnBlocks {
         if self.bytes.is_empty() {
             return true;
         }
-        let (start, len) = bytes_of(self.count, self.size, at, count);
-        are_zero(&self.bytes[start..start + len])
+        false
     }
 }

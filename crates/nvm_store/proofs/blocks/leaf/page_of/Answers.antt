@@ -1,28 +1,39 @@
-use Rattle.std.proofs.Common.{ℕ, ◌+◌, ◌≡◌, List, length, ap, ◌∙◌}
+use Rattle.std.proofs.Common.{ℕ, ◌+◌, ◌≡◌, List, length, ap, ◌∙◌, subst}
 use Rattle.std.proofs.lemmas.List.{length-replicate}
+use Rattle.nvm_record.specs.declared.block.Block.{Block}
+use Rattle.nvm_record.specs.Lists.{IsAt}
 use Rattle.nvm_record.specs.PayloadRef.{lent_bytes}
 use Rattle.nvm_record.specs.Step.{block_at}
+use Rattle.nvm_store.specs.Inside.Own.{cut}
 use Rattle.nvm_store.specs.Inside.Rewrite.{zero_block}
-use Rattle.nvm_store.proofs.OwnBytes.{block_of_part}
-use Rattle.nvm_store.proofs.Ranges.{zeroes_sized}
-use Rattle.nvm_store.proofs.Rewrites.{rewritten_all, rewritten_same}
+use Rattle.nvm_store.proofs.OwnBytes.{at_cut, at_replicate, block_of_part, length_cut}
+use Rattle.nvm_store.proofs.Rewrites.{rewritten_all}
 use Rattle.nvm_store.proofs.blocks.leaf.page_of.Goals as goal
 
-pub write-requires-clause-sized : goal.write-requires-clause-sized
-write-requires-clause-sized c = rw c.zeroed-page.ensures (zeroes_sized c.args.count c.in-Data.size)
-
-pub returns : goal.returns
-returns c =
+pub returns-in_ok-page-in-Data : goal.returns-in_ok-page-in-Data
+returns-in_ok-page-in-Data c =
     let count = c.args.count in
     let size = c.in-Data.size in
+    let from = c.args.from in
     let whole = lent_bytes c.in-Data.payload in
     let part = c.as_slice.result.now in
-    let news = λ (i : ℕ). block_at size whole (c.args.from + i) in
+    let page = c.in_ok-page-in-Data.page in
+    let news = λ (i : ℕ). block_at size whole (from + i) in
     let is = c.as_slice.ensures ∙ c.part-part.ensures in
-    let zeroes = c.zeroed-page.result in
-    let all : length zeroes ≡ count = ap length c.zeroed-page.ensures ∙ length-replicate count (zero_block size) in
+    let made : page ≡ cut count size part = c.in_ok-page-in-Data.ensures in
     rw c.in-Data.is
     (λ old len.
-    rewritten_all count news zeroes old c.write.new.self all len
-    (rewritten_same 0 count (block_at size part) news zeroes c.write.new.self
-    (λ i lt. ap (λ (l : List ℕ). block_at size l i) is ∙ block_of_part size c.args.from count whole i lt) c.in_ok-write.ensures.ok))
+    rewritten_all count news old page (ap length made ∙ length_cut count size part) len
+    (λ i lt. rw made
+    (subst (λ (b : Block). IsAt (cut count size part) i b) (ap (λ (l : List ℕ). block_at size l i) is ∙ block_of_part size from count whole i lt)
+    (at_cut count size part i lt))))
+
+pub returns-else-count-gt-LEAF-2 : goal.returns-else-count-gt-LEAF-2
+returns-else-count-gt-LEAF-2 c =
+    let count = c.args.count in
+    let zero = zero_block c.in-Zeroes.size in
+    let zeroes = c.zeroed.result in
+    rw c.in-Zeroes.is
+    (λ old len.
+    rewritten_all count (λ _. zero) old zeroes (ap length c.zeroed.ensures ∙ length-replicate count zero) len
+    (λ i lt. rw c.zeroed.ensures (at_replicate count zero i lt)))
