@@ -3,13 +3,13 @@
  *
  *     large [SEED] [--times]
  *     large --memory [--blocks N]
- *     large --count N [--of writes|reads|pairs] [--nsze N] [--blocks N]
+ *     large --count N [--of writes|reads|pairs] [--nsze N] [--blocks N] [--alone]
  *
  * Inside, a large namespace has up to 4,096 regions of whole atomic units, so windows lie around the first LBAs of regions, and at both ends. What
  * lies beside a window must stay zeroes. With --times it tells on standard error how long it takes to open and close, and how much is resident then.
  * With --memory it only writes 100 MB, in commands of N blocks that are spread over 2^31 blocks, and prints the resident memory; with --count it only
- * does so many commands of N blocks at 1,000 LBAs, within units of 8 that were written before, for a profiler. It ends with 1 at the first wrong answer, and
- * says what is wrong with it. */
+ * does so many commands of N blocks at 1,000 LBAs, for a profiler, within units of 8 that were written as a whole before, or, with --alone, just so many
+ * blocks of them. NSZE is at least 16,000 then. It ends with 1 at the first wrong answer, and says what is wrong with it. */
 #include <sched.h>
 #include <stdarg.h>
 #include <stdbool.h>
@@ -686,8 +686,8 @@ static void show_memory(uint32_t blocks)
            (unsigned long long)count, blocks, (unsigned long long)count * blocks * 512, before, after, zeroed, resident_bytes());
 }
 
-/* Does so many commands of up to 8 blocks at 1,000 LBAs, each within a unit that was written as a whole before. */
-static void do_commands(uint64_t count, const char *of, uint64_t nsze, uint32_t blocks)
+/* Does so many commands of up to 8 blocks at 1,000 LBAs, each within a unit that was written as a whole before, or of blocks that were written alone. */
+static void do_commands(uint64_t count, const char *of, uint64_t nsze, uint32_t blocks, bool alone)
 {
     enum { LBAS = 1000, UNIT = 8 };
     const size_t length = (size_t)blocks * 512;
@@ -698,11 +698,12 @@ static void do_commands(uint64_t count, const char *of, uint64_t nsze, uint32_t 
     memset(given, 0x5a, DATA);
     for (int i = 0; i < LBAS; i++) {
         lbas[i] = (nsze / LBAS * (uint64_t)i + below(nsze / LBAS - UNIT)) / UNIT * UNIT + below(UNIT + 1 - blocks);
-        uint64_t first = lbas[i] / UNIT * UNIT;
+        uint64_t first = alone ? lbas[i] : lbas[i] / UNIT * UNIT;
+        uint32_t some = alone ? blocks : UNIT;
         uint8_t *number = given + (lbas[i] - first) * 512;
-        entry_of(entries, WRITE, 0, 1, first, UNIT);
+        entry_of(entries, WRITE, 0, 1, first, some);
         put_little(number, 8, 0);
-        MUST(zk_submit(ports, entries, ZK_ENTRY_BYTES, given, UNIT * 512, told, ZK_COMPLETION_BYTES) == ZK_DONE && status_of(told) == 0);
+        MUST(zk_submit(ports, entries, ZK_ENTRY_BYTES, given, (size_t)some * 512, told, ZK_COMPLETION_BYTES) == ZK_DONE && status_of(told) == 0);
         memset(number, 0x5a, 8);
     }
     for (int kind = 0; kind < 3; kind++) {
@@ -736,7 +737,7 @@ static void do_commands(uint64_t count, const char *of, uint64_t nsze, uint32_t 
 
 int main(int words, char **word)
 {
-    bool times = false, memory = false, right = true;
+    bool times = false, memory = false, alone = false, right = true;
     uint64_t count = 0, nsze = 1ull << 31, blocks = 1;
     const char *of = NULL;
     for (int i = 1; i < words; i++) {
@@ -745,6 +746,8 @@ int main(int words, char **word)
             times = true;
         else if (strcmp(name, "--memory") == 0)
             memory = true;
+        else if (strcmp(name, "--alone") == 0)
+            alone = true;
         else if (name[0] != '-')
             seed = strtoull(name, NULL, 0);
         else if (i + 1 == words)
@@ -761,7 +764,7 @@ int main(int words, char **word)
             right = false;
     }
     if (!right || blocks < 1 || blocks > (count ? 8 : MOST_BLOCKS) || nsze < 16000) {
-        fprintf(stderr, "large [SEED] [--times], large --memory [--blocks N], or large --count N [--of writes|reads|pairs] [--nsze N] [--blocks N]\n");
+        fprintf(stderr, "large [SEED] [--times], large --memory [--blocks N], or large --count N [--of writes|reads|pairs] [--nsze N] [--blocks N] [--alone]\n");
         return 2;
     }
     state = seed * 0x9e3779b97f4a7c15ull | 1;
@@ -770,7 +773,7 @@ int main(int words, char **word)
         return 0;
     }
     if (count) {
-        do_commands(count, of, nsze, (uint32_t)blocks);
+        do_commands(count, of, nsze, (uint32_t)blocks, alone);
         return 0;
     }
     unsigned rows = hold_numbers();

@@ -733,6 +733,23 @@ static bool whole_units_settle(void)
     return right;
 }
 
+/* Has memory refused at the nth time, until the command is done without. Each time before, the `all` blocks from LBA `first` on are as they were. */
+static bool done_or_as_before(uint8_t opcode, uint64_t slba, uint32_t blocks, uint8_t *data, uint64_t first, uint32_t all, uint8_t *before)
+{
+    for (unsigned nth = 1; nth < 64; nth++) {
+        refuses_from = nth;
+        int status = status_after(opcode, slba, blocks, data, data ? blocks * BLOCK : 0);
+        bool done = refuses_from != 0;
+        refuses_from = 0;
+        refuses = false;
+        if (done)
+            return status == 0;
+        if ((status != 0x006 && status != -1) || status_after(COMPARE, first, all, before, all * BLOCK) != 0)
+            return false;
+    }
+    return false;
+}
+
 /* In a unit of more than 65,536 bytes a block that was written alone is written again, read and compared without memory, and what nobody has written is
  * zeroed without. Where memory is refused at the nth time to a Write of several blocks, all of them are as they were. */
 static bool large_units(void)
@@ -753,52 +770,37 @@ static bool large_units(void)
     right &= status_after(WRITE_ZEROES, 3 + SOME, BLOCKS - 3 - SOME, NULL, 0) == 0 && status_after(WRITE_ZEROES, 100, 1, NULL, 0) == 0;
     refuses = false;
     memset(read, 6, sizeof read);
-    bool done = false;
-    for (unsigned nth = 1; right && !done; nth++) {
-        refuses_from = nth;
-        int status = status_after(WRITE, 3, SOME, read, sizeof read);
-        done = refuses_from != 0;
-        refuses_from = 0;
-        refuses = false;
-        right = nth < 64 && status == (done ? 0 : 0x006) && status_after(COMPARE, 3, SOME, done ? read : data, sizeof data) == 0;
-    }
+    right &= done_or_as_before(WRITE, 3, SOME, read, 3, SOME, data) && status_after(COMPARE, 3, SOME, read, sizeof read) == 0;
     zk_close(ports);
     return right;
 }
 
-/* In such a unit eight blocks that were written at once are in one piece of memory: then no Write in them takes any, and a Write Zeroes of all eight gives it
- * back. Where memory is refused at the nth time to a Write of two such pieces, or to a mark in one, all blocks are as they were. */
+/* In such a unit eight blocks that were written at once are a page: then no Write in them takes memory. A Write Zeroes of all eight gives theirs back, also
+ * where they are zeroes already, so that the next Write of them is refused without. Where memory is refused at the nth time to a Write of two pages, to one
+ * of parts of both, or to a mark in one, all blocks are as they were. */
 static bool pages(void)
 {
     enum { BLOCKS = 256, PAGE = 8 };
     static const struct zk_namespace large = { BLOCKS, BLOCK, BLOCKS - 1, 0, BLOCKS - 1, BLOCKS - 1 };
-    static uint8_t data[2 * PAGE * BLOCK], read[2 * PAGE * BLOCK], zeroes[2 * PAGE * BLOCK];
+    static uint8_t data[2 * PAGE * BLOCK], read[2 * PAGE * BLOCK], before[2 * PAGE * BLOCK];
     if (zk_open(ports, 1, &large, ZK_NO_LIMIT, false) != ZK_DONE)
         return false;
     memset(data, 7, sizeof data);
-    bool right = true;
-    for (int is_mark = 0; is_mark < 2; is_mark++) {
-        bool done = false;
-        for (unsigned nth = 1; right && !done; nth++) {
-            refuses_from = nth;
-            int status = is_mark ? status_after(WRITE_UNCORRECTABLE, PAGE + 1, 1, NULL, 0) : status_after(WRITE, PAGE, 2 * PAGE, data, sizeof data);
-            done = refuses_from != 0;
-            refuses_from = 0;
-            refuses = false;
-            right = nth < 64 && (done ? status == 0 : status == 0x006 || status == -1);
-            if (!done)
-                right &= status_after(COMPARE, PAGE, 2 * PAGE, is_mark ? data : zeroes, sizeof data) == 0;
-        }
-        if (is_mark || !right)
-            break;
-        refuses = true;
-        memset(data + 2 * BLOCK, 5, 4 * BLOCK);
-        right = status_after(WRITE, PAGE + 2, 4, data + 2 * BLOCK, 4 * BLOCK) == 0 && status_after(COMPARE, PAGE, 2 * PAGE, data, sizeof data) == 0;
-        right &= status_after(WRITE, PAGE, PAGE, data, PAGE * BLOCK) == 0 && status_after(WRITE_ZEROES, 2 * PAGE, PAGE, NULL, 0) == 0;
-        memset(data + PAGE * BLOCK, 0, PAGE * BLOCK);
-        right &= status_after(READ, PAGE, 2 * PAGE, read, sizeof read) == 0 && memcmp(read, data, sizeof read) == 0;
-        refuses = false;
-    }
+    bool right = done_or_as_before(WRITE, PAGE, 2 * PAGE, data, PAGE, 2 * PAGE, before);
+    memcpy(before, data, sizeof data);
+    memset(data + 6 * BLOCK, 9, 4 * BLOCK);
+    right &= done_or_as_before(WRITE, PAGE + 6, 4, data + 6 * BLOCK, PAGE, 2 * PAGE, before);
+    refuses = true;
+    memset(data + 2 * BLOCK, 5, 3 * BLOCK);
+    right &= status_after(WRITE, PAGE + 2, 3, data + 2 * BLOCK, 3 * BLOCK) == 0 && status_after(COMPARE, PAGE, 2 * PAGE, data, sizeof data) == 0;
+    right &= status_after(WRITE, PAGE, PAGE, data, PAGE * BLOCK) == 0 && status_after(WRITE_ZEROES, 2 * PAGE, PAGE, NULL, 0) == 0;
+    memset(data + PAGE * BLOCK, 0, PAGE * BLOCK);
+    right &= status_after(READ, PAGE, 2 * PAGE, read, sizeof read) == 0 && memcmp(read, data, sizeof read) == 0;
+    right &= status_after(WRITE, 2 * PAGE, PAGE, data, PAGE * BLOCK) == 0x006;
+    right &= status_after(WRITE_ZEROES, PAGE, 5, NULL, 0) == 0 && status_after(WRITE_ZEROES, PAGE + 5, 3, NULL, 0) == 0;
+    right &= status_after(WRITE_ZEROES, PAGE, PAGE, NULL, 0) == 0 && status_after(WRITE, PAGE, PAGE, data, PAGE * BLOCK) == 0x006;
+    refuses = false;
+    right &= status_after(WRITE, PAGE, PAGE, data, PAGE * BLOCK) == 0 && done_or_as_before(WRITE_UNCORRECTABLE, PAGE + 1, 1, NULL, PAGE, 2 * PAGE, data);
     right &= status_after(READ, PAGE, 2, read, 2 * BLOCK) == 0x281 && status_after(COMPARE, PAGE, 1, data, BLOCK) == 0;
     right &= status_after(COMPARE, PAGE + 2, PAGE, data + 2 * BLOCK, PAGE * BLOCK) == 0;
     zk_close(ports);

@@ -3,8 +3,8 @@
  *     nbdkit ./nbdkit-zalkvorn.so size=64M [block=512|4096] [unit=BLOCKS] [ports=COUNT] [most=BLOCKS]
  *
  * `size` is a multiple of the block size, at most 2^40 blocks. `unit` blocks are an atomic unit (16), `ports` is how many requests are
- * done at the same time (16), `most` how many blocks one command has (256): a longer request is cut into several commands. In a region of more than 65,536 bytes a block that was written holds the data of its
- * whole command until all blocks of that were written again, so a smaller `most` bounds memory: at worst each block holds `most` blocks.
+ * done at the same time (16), `most` how many blocks one command has (256): a longer request is cut into several commands. In a region of more than 65,536 bytes a block of 4,096 bytes, or of a
+ * command that isn't of whole eights of blocks, holds the data of its whole command until all blocks of that were written again, so a smaller `most` bounds memory: at worst each block holds `most` blocks.
  *
  * Each request takes a port that no other request has. A mutex hands ports from thread to thread, as the library wants. Blocks
  * that a request covers only in part are changed by a fused Compare and Write, so that nothing is lost between two of them. */
