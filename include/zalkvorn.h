@@ -140,8 +140,8 @@ uint32_t zk_version(void);
  *   - A region of at most 65,536 bytes, without `versions`, is one piece of memory, which its first Write takes and a Write
  *     Zeroes or Deallocate of all its blocks gives back. A first Write Uncorrectable makes it a tree for good, by a copy.
  *   - Any other region is a tree, by eight blocks from its first on. Without `versions`, eight of 512 bytes are a page of 4 KiB
- *     once a Write had all of them: one of whole eights, as counted in each unit. A Write Zeroes or Deallocate of all eight gives
- *     the page back. After a Write Uncorrectable of one they are as below, until a Write has all of them again.
+ *     once a Write had all of them, and in their unit nothing but whole eights. A Write Zeroes or Deallocate of all eight gives the
+ *     page back. After a Write Uncorrectable of one they are as below, until a Write has all of them again.
  *   - Else the data of a Write stays until each of its blocks was changed again: at worst each block holds the longest Write that
  *     you submit. A Write Zeroes or Deallocate takes no memory for eight of which it changes none that was written, and leaves
  *     some 50 bytes a block where one was. A command that changes several blocks makes some 50 bytes for each anew, and copies up
