@@ -148,8 +148,7 @@ impl Engine {
 }
 
 /// Does the only part of a job, tells C of it, and says whether it did. It doesn't where the region wasn't to be had.
-// Apart, since the compiler drops the word that asks for inlining, without a message, where a function would grow very large: then all of `submit_fields` would be a call.
-#[inline(never)]
+#[inline(always)]
 pub(crate) fn done_at_once(
     alloc: Global,
     space: &Space<Count>,

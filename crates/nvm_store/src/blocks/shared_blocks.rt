@@ -90,7 +90,8 @@ impl SharedBlocks {
 
     /// The `count` blocks from place `at` take the data, in blocks of `size` bytes. They share it, if it is shared and they are no pages. Else those of one
     /// leaf take it into their own memory if they can, and others take or share a copy.
-    #[inline(always)]
+    // A call, as a Read and a Compare of a tree are: with a way for each height of the tree they make who calls them so large that the compiler drops its `inline(always)`, without a message.
+    #[inline(never)]
     pub fn write(
         &mut self,
         alloc: Global,

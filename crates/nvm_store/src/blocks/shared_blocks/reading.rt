@@ -31,7 +31,7 @@ impl SharedBlocks {
 
     /// Whether the bytes of the `count` blocks from place `at`, one block after the other, are exactly the data. `None` if one of them is marked.
     /// It takes no memory. What lies in one leaf is looked up once.
-    #[inline(always)]
+    #[inline(never)]
     pub fn compare(&self, at: usize, count: usize, payload: &[u8]) -> Option<bool>
         requires { at + count ≤ length self.now }
         ensures marked { IfNone result (medium.has_mark (stretch_of at count self.now) ≡ true) }
@@ -96,7 +96,7 @@ impl SharedBlocks {
 
     /// Whether one of the `count` blocks from place `at` is marked. Else their bytes, one block after the other, are in the buffer, which has room
     /// for exactly these. What lies in one leaf is looked up once.
-    #[inline(always)]
+    #[inline(never)]
     pub fn read_into(&self, at: usize, count: usize, buffer: &mut [u8]) -> bool
         requires range { at + count ≤ length self.now }
         requires room { medium.has_mark (stretch_of at count self.now) ≡ false
