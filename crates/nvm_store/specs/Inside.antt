@@ -11,3 +11,6 @@ pub mod Source
 -- The blocks of a unit in one piece of memory.
 pub mod Own
 pub mod Memory
+-- Rows that are known by their numbers, and pages of blocks.
+pub mod Gathered
+pub mod Pages

@@ -216,7 +216,7 @@ fn fill_up(bytes: &mut Vec<u8>, len: usize) -> Result<(), NoMemory>
 
 /// Puts new bytes from place `from` on.
 #[inline(always)]
-fn put(bytes: &mut Vec<u8>, from: usize, new: &[u8])
+pub fn put(bytes: &mut Vec<u8>, from: usize, new: &[u8])
     requires { from + length new.now ≤ length bytes.old.items }
     ensures { bytes.new.items ≡ with_bytes from new.now bytes.old.items }
 {
