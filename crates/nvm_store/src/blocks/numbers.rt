@@ -1,5 +1,6 @@
 ghost use Rattle.std.specs.Prelude.{◌≡◌, ◌+◌, ◌^◌, ◌<◌, ◌≤◌, IfOk, OnErr, OnOk, length, replicate, slice_set};
 ghost use Rattle.nvm_record.specs.Lists.{IsAt};
+ghost use Rattle.nvm_store.specs.Inside.Gathered.{gathered, AreNumbers};
 
 use nvm_record::NoMemory;
 use std::alloc::Global;
@@ -58,13 +59,7 @@ impl Numbers {
         ensures ok { OnOk result (self.new ≡ slice_set self.old place number) }
         ensures err { OnErr result (self.new ≡ self.old) }
     {
-        let at = place / ROW;
-        if self.top[at] == 0 {
-            let row = self.rows.len() / ROW;
-            self.rows.resize((row + 1) * ROW, 0)?;
-            self.top[at] = row as u32;
-        }
-        let row = self.top[at] as usize;
+        let row = own_row(&mut self.top, &mut self.rows, place / ROW)?;
         self.rows[row * ROW + place % ROW] = number;
         Ok(())
     }
@@ -87,4 +82,22 @@ impl Numbers {
             rows: self.rows.clone()?,
         })
     }
+}
+
+/// The row of 64 places that is theirs alone. It is made where they had zeroes alone.
+fn own_row(top: &mut Vec<u32>, rows: &mut Vec<u32>, at: usize) -> Result<usize, NoMemory>
+    requires sound { AreNumbers rows.old.items top.old.items }
+    requires at { at < length top.old.items }
+    ensures row { IfOk result (λ row. (0 < row) × IsAt top.new.items at row) }
+    ensures sound { AreNumbers rows.new.items top.new.items }
+    ensures same { gathered 64 rows.new.items top.new.items ≡ gathered 64 rows.old.items top.old.items }
+{
+    let found = top[at] as usize;
+    if found > 0 {
+        return Ok(found);
+    }
+    let row = rows.len() / ROW;
+    rows.resize((row + 1) * ROW, 0)?;
+    top[at] = row as u32;
+    Ok(row)
 }
