@@ -13,6 +13,7 @@ mod leaf;
 mod levels;
 mod numbers;
 mod own_blocks;
+mod paged_blocks;
 mod pages;
 mod shared_blocks;
 mod source;

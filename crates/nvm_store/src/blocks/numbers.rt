@@ -47,7 +47,8 @@ impl Numbers {
     #[inline(always)]
     pub fn at(&self, place: usize) -> usize
         requires { place < length self.now }
-        ensures { IsAt self.now place result }
+        ensures is { IsAt self.now place result }
+        ensures fits { result < 2 ^ 32 }
     {
         let row = self.top[place / ROW] as usize;
         self.rows[row * ROW + place % ROW] as usize

@@ -1,7 +1,8 @@
-ghost use Rattle.std.specs.Prelude.{◌≡◌, ◌+◌, ◌++◌, ◌*◌, ◌^◌, ◌<◌, ◌≤◌, IfOk, OnErr, OnOk, false, length, replicate};
+ghost use Rattle.std.specs.Prelude.{◌≡◌, ◌+◌, ◌++◌, ◌*◌, ◌^◌, ◌<◌, ◌≤◌, IfOk, OnErr, OnOk, drop, false, length, replicate, take};
 ghost use Rattle.nvm_record.specs.declared.block.Block.TheVariants.{Uncorrectable};
 ghost use Rattle.nvm_record.specs.Medium as medium;
 ghost use Rattle.nvm_record.specs.Step.{block_at};
+ghost use Rattle.nvm_store.specs.Inside.Own.{with_bytes};
 ghost use Rattle.nvm_store.specs.Inside.Rewrite.{IsRewritten, stretch_of, zero_block};
 
 use crate::blocks::own_blocks::put;
@@ -85,13 +86,11 @@ impl Pages {
         ensures ok { OnOk result (self.new.list ≡ self.old.list ++ replicate more (zero_block self.old.size)) }
         ensures err { OnErr result (self.new.list ≡ self.old.list) }
     {
-        let count = self.marks.len();
-        self.bytes.resize((count + more) * self.size, 0)?;
-        if let Err(fault) = self.marks.resize(count + more, false) {
-            self.bytes.truncate(count * self.size);
-            return Err(fault);
-        }
-        Ok(())
+        // With room for the marks first, all stays as it was where there is no memory.
+        self.marks.reserve(more)?;
+        let count = self.marks.len() + more;
+        self.bytes.resize(count * self.size, 0)?;
+        self.marks.resize(count, false)
     }
 
     /// The `count` blocks from place `at` take the data.
@@ -104,7 +103,7 @@ impl Pages {
     {
         put(&mut self.bytes, at * self.size, payload);
         if self.marked {
-            self.marks[at..at + count].fill(false);
+            set_marks(&mut self.marks, at, count, false);
         }
     }
 
@@ -114,9 +113,9 @@ impl Pages {
         ensures size { self.new.size ≡ self.old.size }
         ensures list { IsRewritten at count (λ _. zero_block self.old.size) self.old.list self.new.list }
     {
-        self.bytes[at * self.size..(at + count) * self.size].fill(0);
+        clear(&mut self.bytes, at * self.size, count * self.size);
         if self.marked {
-            self.marks[at..at + count].fill(false);
+            set_marks(&mut self.marks, at, count, false);
         }
     }
 
@@ -127,7 +126,7 @@ impl Pages {
         ensures list { IsRewritten at count (λ _. Uncorrectable) self.old.list self.new.list }
     {
         self.marked = true;
-        self.marks[at..at + count].fill(true);
+        set_marks(&mut self.marks, at, count, true);
     }
 
     /// Whether one of the `count` blocks from place `at` is marked.
@@ -149,4 +148,20 @@ impl Pages {
     {
         &self.bytes[at * self.size..(at + count) * self.size]
     }
+}
+
+/// Puts `len` zero bytes from place `from` on.
+fn clear(bytes: &mut Vec<u8>, from: usize, len: usize)
+    requires { from + len ≤ length bytes.old.items }
+    ensures { bytes.new.items ≡ with_bytes from (replicate len 0) bytes.old.items }
+{
+    bytes[from..from + len].fill(0);
+}
+
+/// Sets the marks of `count` blocks from place `at`, or takes them away.
+fn set_marks(marks: &mut Vec<bool>, at: usize, count: usize, mark: bool)
+    requires { at + count ≤ length marks.old.items }
+    ensures { marks.new.items ≡ take at marks.old.items ++ (replicate count mark ++ drop (at + count) marks.old.items) }
+{
+    marks[at..at + count].fill(mark);
 }

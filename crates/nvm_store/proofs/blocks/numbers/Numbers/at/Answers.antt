@@ -23,8 +23,8 @@ index-requires-2 c =
     let within = lies.within in
     rw c.self.inside.rows.ok.0 (omega (arith, far, within))
 
-pub returns : goal.returns
-returns c =
+pub returns-clause-is : goal.returns-clause-is
+returns-clause-is c =
     let top = c.self.inside.top.items in
     let rows = c.self.inside.rows.items in
     let row = c.index.result.now in
