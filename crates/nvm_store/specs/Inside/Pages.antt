@@ -32,3 +32,4 @@ pub record ArePaged (pages : Kept) (numbers : List ℕ) : Type 0 where
 pub record IsPaged (count : ℕ) (pages : Kept) (numbers : List ℕ) : Type 0 where
   pub paged : ArePaged pages numbers
   pub enough : count ≤ length numbers * 8
+  pub low : count < 2 ^ 32

@@ -1,12 +1,18 @@
-ghost use Rattle.std.specs.Prelude.{◌≡◌, ◌⊎◌, ℕ, ◌+◌, ◌-◌, ◌*◌, ◌/◌, ◌^◌, ◌<◌, ◌≤◌, IfOk, OnErr, OnOk, false, length, replicate};
+ghost use Rattle.std.specs.Prelude.{◌≡◌, ◌⊎◌, ℕ, ◌+◌, ◌-◌, ◌*◌, ◌/◌, ◌^◌, ◌<◌, ◌≤◌, IfOk, OnErr, OnOk, length, replicate};
+ghost use Rattle.nvm_record.specs.declared.block.Block.TheVariants.{Uncorrectable};
 ghost use Rattle.nvm_record.specs.Lists.{IsAt};
+ghost use Rattle.nvm_record.specs.Step.{block_at};
 ghost use Rattle.nvm_store.specs.Inside.Gathered.{gathered};
 ghost use Rattle.nvm_store.specs.Inside.Pages.{ArePaged};
-ghost use Rattle.nvm_store.specs.Inside.Rewrite.{zero_block};
+ghost use Rattle.nvm_store.specs.Inside.Rewrite.{IsRewritten, zero_block};
+ghost use Rattle.nvm_store.specs.Inside.Source.{AreZeroes, HasBlocks, HasSize, source_block};
+
+mod reading;
 
 use crate::blocks::numbers::Numbers;
 use crate::blocks::pages::Pages;
-use nvm_record::NoMemory;
+use crate::blocks::source::Source;
+use nvm_record::{NoMemory, PayloadRef};
 use std::alloc::Global;
 use std::marker::Model;
 
@@ -70,6 +76,68 @@ impl PagedBlocks {
             pages: self.pages.copy()?,
         })
     }
+
+    /// The `count` blocks from place `at` take the data. Where all of them are in one page that is there, that takes no memory.
+    #[inline(always)]
+    pub fn write(&mut self, at: usize, count: usize, payload: &[u8]) -> Result<(), NoMemory>
+        requires some { 0 < count }
+        requires range { at + count ≤ length self.old.list }
+        requires payload { length payload.now ≡ count * self.old.size }
+        ensures size { self.new.size ≡ self.old.size }
+        ensures ok { OnOk result (IsRewritten at count (block_at self.old.size payload.now) self.old.list self.new.list) }
+        ensures err { OnErr result (self.new.list ≡ self.old.list) }
+    {
+        let page = self.numbers.at(at / PAGE);
+        if page > 0 && count <= PAGE - at % PAGE {
+            self.pages.put(page * PAGE + at % PAGE, count, payload);
+            return Ok(());
+        }
+        let size = self.pages.size();
+        let payload = PayloadRef::of(payload);
+        self.put_all(at, count, &Source::Data { size, payload })
+    }
+
+    /// The `count` blocks from place `at` become zero bytes. Where they are all, their memory is given back, if there is some for one page.
+    pub fn zero(&mut self, alloc: Global, at: usize, count: usize)
+        requires { at + count ≤ length self.old.list }
+        ensures size { self.new.size ≡ self.old.size }
+        ensures list { IsRewritten at count (λ _. zero_block self.old.size) self.old.list self.new.list }
+    {
+        let size = self.pages.size();
+        if count == self.count {
+            if let Ok(zeroes) = PagedBlocks::zeroed(alloc, count, size) {
+                *self = zeroes;
+                return;
+            }
+        }
+        fill(&self.numbers, &mut self.pages, at, count, &Source::Zeroes { size });
+    }
+
+    /// The `count` blocks from place `at` are marked.
+    pub fn mark(&mut self, at: usize, count: usize) -> Result<(), NoMemory>
+        requires { at + count ≤ length self.old.list }
+        ensures size { self.new.size ≡ self.old.size }
+        ensures ok { OnOk result (IsRewritten at count (λ _. Uncorrectable) self.old.list self.new.list) }
+        ensures err { OnErr result (self.new.list ≡ self.old.list) }
+    {
+        self.put_all(at, count, &Source::Marks)
+    }
+
+    /// The `count` blocks from place `at` become the source's, in pages of their own. These are made first, and the rest isn't refused.
+    #[inline(never)]
+    fn put_all(&mut self, at: usize, count: usize, source: &Source<'_>) -> Result<(), NoMemory>
+        requires range { at + count ≤ length self.old.list }
+        requires source { HasBlocks source.now count }
+        requires size { HasSize source.now self.old.size }
+        ensures size { self.new.size ≡ self.old.size }
+        ensures ok { OnOk result (IsRewritten at count (source_block source.now) self.old.list self.new.list) }
+        ensures err { OnErr result (self.new.list ≡ self.old.list) }
+    {
+        let end = (at + count + PAGE - 1) / PAGE;
+        keep_all(&mut self.numbers, &mut self.pages, at / PAGE, end)?;
+        fill(&self.numbers, &mut self.pages, at, count, source);
+        Ok(())
+    }
 }
 
 /// Gives the 8 blocks at a place a page of their own, if they have none.
@@ -114,4 +182,27 @@ fn keep_all(
         keep(numbers, pages, place)?;
     }
     Ok(())
+}
+
+/// The `count` blocks from place `at` become the source's. They have pages of their own, or are to be zeroes, as those without one are already.
+fn fill(numbers: &Numbers, pages: &mut Pages, at: usize, count: usize, source: &Source<'_>)
+    requires sound { ArePaged pages.old numbers.now }
+    requires range { at + count ≤ length numbers.now * 8 }
+    requires source { HasBlocks source.now count }
+    requires size { HasSize source.now pages.old.size }
+    requires own { AreZeroes source.now ⊎ ((i n : ℕ) → at / 8 ≤ i → i * 8 < at + count → IsAt numbers.now i n → 0 < n) }
+    ensures sound { ArePaged pages.new numbers.now }
+    ensures size { pages.new.size ≡ pages.old.size }
+    ensures list { IsRewritten at count (source_block source.now) (gathered 8 pages.old.list numbers.now) (gathered 8 pages.new.list numbers.now) }
+{
+    let mut done = 0;
+    while done < count {
+        let here = at + done;
+        let most = (PAGE - here % PAGE).min(count - done);
+        let page = numbers.at(here / PAGE);
+        if page > 0 {
+            pages.fill(page * PAGE + here % PAGE, most, done, source);
+        }
+        done += most;
+    }
 }

@@ -4,8 +4,10 @@ ghost use Rattle.nvm_record.specs.Medium as medium;
 ghost use Rattle.nvm_record.specs.Step.{block_at};
 ghost use Rattle.nvm_store.specs.Inside.Own.{with_bytes};
 ghost use Rattle.nvm_store.specs.Inside.Rewrite.{IsRewritten, stretch_of, zero_block};
+ghost use Rattle.nvm_store.specs.Inside.Source.{HasBlocks, HasSize, source_block};
 
 use crate::blocks::own_blocks::put;
+use crate::blocks::source::Source;
 use nvm_record::NoMemory;
 use std::alloc::Global;
 use std::marker::Model;
@@ -127,6 +129,27 @@ impl Pages {
     {
         self.marked = true;
         set_marks(&mut self.marks, at, count, true);
+    }
+
+    /// The `count` blocks from place `at` become the source's from place `from` on.
+    pub fn fill(&mut self, at: usize, count: usize, from: usize, source: &Source<'_>)
+        requires range { at + count ≤ length self.old.list }
+        requires source { HasBlocks source.now (from + count) }
+        requires size { HasSize source.now self.old.size }
+        ensures size { self.new.size ≡ self.old.size }
+        ensures list { IsRewritten at count (λ i. source_block source.now (from + i)) self.old.list self.new.list }
+    {
+        match *source {
+            Source::Data { size, payload } => {
+                // A length fits, so each place up to it does.
+                let _len = payload.len();
+                let first = from * size;
+                let part = payload.part(first, first + count * size);
+                self.put(at, count, part.as_slice());
+            }
+            Source::Zeroes { .. } => self.clear(at, count),
+            Source::Marks => self.mark(at, count),
+        }
     }
 
     /// Whether one of the `count` blocks from place `at` is marked.
