@@ -3,7 +3,7 @@ use Rattle.std.proofs.Common.{◌≡◌, ◌⊎◌, ℕ, zero, suc, ◌+◌, ◌
 use mathlib.Core.Option.{some-injective, some-ne-none}
 use Rattle.std.proofs.Math.ListN.{set}
 use Rattle.std.proofs.Math.Seq.{drop-append-add}
-use Rattle.std.proofs.lemmas.Bool.Decides.{eqb_tells}
+use Rattle.std.proofs.lemmas.Bool.Decides.{leb_tells}
 use Rattle.std.proofs.lemmas.List.{drop-append-le, drop-drop, drop-take, length-append, length-drop, length-replicate, length-set, length-take-le, replicate-append-replicate, take-append-le, take-take, take_all}
 use Rattle.nvm_record.specs.declared.block.Block.{Block}
 use Rattle.nvm_record.specs.Lists.{IsAt}
@@ -418,3 +418,85 @@ module _ {A : Type 0} where
         is = set_gathered w thing rows numbers k (suc n) j thing is at some lt;
         sound = set_is_gathered w thing rows numbers (suc n) j thing is some lt;
       }
+
+  set_set : (xs : List A) (i : ℕ) (x y : A) → set (set xs i x) i y ≡ set xs i y
+  set_set [] i x y = refl
+  set_set (z ∷ zs) zero x y = refl
+  set_set (z ∷ zs) (suc i) x y = ap (λ (l : List A). z ∷ l) (set_set zs i x y)
+
+  -- What was set is as it was once it is set back.
+  pub set_back : (xs : List A) (i : ℕ) (x y : A) → IsAt xs i x → set (set xs i y) i x ≡ xs
+  set_back xs i x y at = set_set xs i y x ∙ set_same xs i x at
+
+-- What a change of blocks within one row does to all.
+pub record IsChanged (w : ℕ) (thing : Block) (rows others : List Block) (numbers : List ℕ) (at count : ℕ) (news : ℕ → Block) : Type 0 where
+  pub is : IsRewritten at count news (gathered w rows numbers) (gathered w others numbers)
+  pub sound : IsGathered w thing others numbers
+
+pub changed : (w : ℕ) (thing : Block) (rows others : List Block) (numbers : List ℕ) (k n j at count : ℕ) (news : ℕ → Block)
+    → IsGathered w thing rows numbers → IsAt numbers k n → 0 < n → at ≡ k * w + j → j + count ≤ w → j < w → IsRewritten (n * w + j) count news rows others
+    → IsChanged w thing rows others numbers at count news
+changed w thing rows others numbers k n j at count news is number some here few below put =
+    let there = all_there w thing rows numbers is in
+    let same : length others ≡ length rows = put.len in
+    let there' : AreThere w others numbers = λ i m at'. let h = there i m at' in omega (arith, h, same) in
+    record {
+      is =
+          record {
+            len = length_gathered w others numbers there' ∙ sym (length_gathered w rows numbers there);
+            rewritten =
+                λ i lt.
+                let place : k * w + (j + i) ≡ at + i = omega (arith, here) in
+                let place' : n * w + j + i ≡ n * w + (j + i) = omega arith in
+                subst (λ (p : ℕ). IsAt (gathered w others numbers) p (news i)) place
+                (at_gathered w others numbers k n (j + i) (news i) there' number (omega (arith, few, lt))
+                (subst (λ (p : ℕ). IsAt others p (news i)) place' (put.rewritten i lt)));
+            others =
+                λ i block out at_i.
+                let it = found w rows numbers i block there at_i in
+                let e = it.place in
+                let off : (it.n * w + it.j < n * w + j) ⊎ (n * w + j + count ≤ it.n * w + it.j) =
+                elim (leb_tells (n * w + j) (it.n * w + it.j)) [
+                  | inr low ↦ let lt = low.1 in inl (omega (arith, lt))
+                  | inl high ↦
+                      let le = high.1 in
+                      elim (leb_tells (n * w + j + count) (it.n * w + it.j)) [
+                        | inl past ↦ inr past.1
+                        | inr within ↦
+                            let lt = within.1 in
+                            let d = it.n * w + it.j - n * w in
+                            let e' : it.n * w + it.j ≡ n * w + d = omega (arith, le) in
+                            let one : it.n ≡ n = same_row w it.n n it.j d it.below (omega (arith, lt, few)) e' in
+                            let two : it.j ≡ d = let f = ap (λ (m : ℕ). m * w) one in omega (arith, e', f) in
+                            let number' : IsAt numbers it.k n = subst (λ (m : ℕ). IsAt numbers it.k m) one it.number in
+                            elim (is.once it.k k n number' number) [
+                              | inl none ↦ absurd (omega (arith, none, some))
+                              | inr same_k ↦
+                                  let f = ap (λ (m : ℕ). m * w) same_k in
+                                  absurd (elim out [ inl before ↦ omega (arith, before, here, e, f, two, le) | inr after ↦ omega (arith, after, here, e, f, two, lt) ])
+                            ]
+                      ]
+                ] in
+                subst (λ (p : ℕ). IsAt (gathered w others numbers) p block) (sym e)
+                (at_gathered w others numbers it.k it.n it.j block there' it.number it.below (put.others (it.n * w + it.j) block off it.is));
+          };
+      sound =
+          record {
+            some = is.some;
+            first =
+                let end = rows_within 0 n w some in
+                let least = rows_within 0 (suc (named numbers)) w (omega arith) in
+                let count' = is.count in
+                let first_in : 0 * w + w ≤ length rows = omega (arith, least, count') in
+                let first_in' : 0 * w + w ≤ length others = omega (arith, first_in, same) in
+                same_lists (row_of w others 0) (row_of w rows 0) (length_row w others 0 first_in' ∙ sym (length_row w rows 0 first_in))
+                (λ i block at_i.
+                let back = at_row_back w rows 0 i block at_i in
+                let lt = back.0 in
+                at_row w others 0 i block lt (put.others (0 * w + i) block (inl (omega (arith, end, lt))) back.1))
+                ∙ is.first;
+            count = same ∙ is.count;
+            within = is.within;
+            once = is.once;
+          };
+    }
