@@ -9,9 +9,10 @@ use Rattle.nvm_record.specs.Lists.{IsAt}
 use Rattle.nvm_record.specs.Medium.{has_mark}
 use Rattle.nvm_store.specs.Inside.Gathered.{row_of, gathered}
 use Rattle.nvm_store.specs.Inside.Pages.{Kept, IsPaged}
-use Rattle.nvm_store.specs.Inside.Rewrite.{stretch_of}
+use Rattle.nvm_store.specs.Inside.Rewrite.{IsRewritten, stretch_of}
 use Rattle.nvm_store.proofs.Gathering.{AreThere, all_there, length_gathered, length_row, place_of_row}
 use Rattle.nvm_store.proofs.Parts.{LiesIn}
+use Rattle.nvm_store.proofs.Rewrites.{rewritten_front}
 use Rattle.nvm_store.proofs.Stretches.{has_mark-append, next_stretch}
 
 module _ {A : Type 0} where
@@ -96,3 +97,13 @@ pub unmarked_stretches : (blocks stretch : List Block) (from left n : ℕ) → s
     → (has_mark stretch ≡ false) × (has_mark (stretch_of (from + n) (left - n) blocks) ≡ false)
 unmarked_stretches blocks stretch from left n is le none =
     unmarked_parts stretch (stretch_of (from + n) (left - n) blocks) (sym (ap has_mark (next_stretch blocks stretch from left n is le)) ∙ none)
+
+-- A change of the gathered blocks within those that count is one of these.
+pub counted_change : (count : ℕ) (pages others : Kept) (numbers after : List ℕ) (at n : ℕ) (news : ℕ → Block) → IsPaged count pages numbers
+    → at + n ≤ length (take count (gathered 8 pages.list numbers)) → IsRewritten at n news (gathered 8 pages.list numbers) (gathered 8 others.list after)
+    → IsRewritten at n news (take count (gathered 8 pages.list numbers)) (take count (gathered 8 others.list after))
+counted_change count pages others numbers after at n news is within put =
+    let len = length_gathered 8 pages.list numbers (all_there 8 _ pages.list numbers is.paged.gathered) in
+    let counted = length_paged count pages numbers is in
+    let enough = is.enough in
+    rewritten_front at n count news (gathered 8 pages.list numbers) (gathered 8 others.list after) (omega (arith, within, counted)) (omega (arith, len, enough)) put

@@ -133,6 +133,8 @@ impl PagedBlocks {
         ensures ok { OnOk result (IsRewritten at count (source_block source.now) self.old.list self.new.list) }
         ensures err { OnErr result (self.new.list ≡ self.old.list) }
     {
+        // The number of blocks is small, so each place up to it fits.
+        let _count = self.count;
         let end = (at + count + PAGE - 1) / PAGE;
         keep_all(&mut self.numbers, &mut self.pages, at / PAGE, end)?;
         fill(&self.numbers, &mut self.pages, at, count, source);
