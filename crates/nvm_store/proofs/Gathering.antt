@@ -387,7 +387,7 @@ module _ {A : Type 0} where
   set_same (y ∷ ys) zero x at = ap (λ (z : A). z ∷ ys) (sym (some-injective y x at))
   set_same (y ∷ ys) (suc i) x at = ap (λ (l : List A). y ∷ l) (set_same ys i x at)
 
-  at_replicate : (n : ℕ) (x : A) (i : ℕ) → i < n → IsAt (replicate n x) i x
+  pub at_replicate : (n : ℕ) (x : A) (i : ℕ) → i < n → IsAt (replicate n x) i x
   at_replicate zero x i lt = absurd (omega (arith, lt))
   at_replicate (suc n) x zero lt = refl
   at_replicate (suc n) x (suc i) lt = at_replicate n x i (omega (arith, lt))

@@ -5,7 +5,6 @@ pub mod Sound
 pub mod Rewrite
 pub mod Stored
 pub mod Tree
-pub mod Leaf
 pub mod Levels
 pub mod Source
 -- The blocks of a unit in one piece of memory.

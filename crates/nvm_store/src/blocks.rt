@@ -18,7 +18,6 @@ mod pages;
 mod shared_blocks;
 mod source;
 mod stored_block;
-mod stored_blocks;
 mod stretches;
 mod tree;
 
@@ -71,23 +70,20 @@ impl Blocks {
     pub fn zeroed(alloc: Global, count: usize, size: usize) -> Result<Blocks, NoMemory>
         ensures { IfOk result (λ blocks. blocks ≡ replicate count (zero_block size)) }
     {
-        let blocks = SharedBlocks::zeroed(alloc, count, size, false)?;
+        let blocks = SharedBlocks::zeroed(alloc, count, size)?;
         Ok(Blocks {
             memory: Memory::Shared(blocks),
         })
     }
 
-    /// The same, to be changed in place. They are in one piece of memory if they have at most `MOST_OWN_BYTES`, which is asked for when the first of them is
-    /// written and given back when all of them are zeroed at once, and else in a tree, whose whole leaves may become pages.
+    /// The same, in one piece of memory if they have at most `MOST_OWN_BYTES`, which is asked for when the first of them is written
+    /// and given back when all of them are zeroed at once.
     pub fn own(alloc: Global, count: usize, size: usize) -> Result<Blocks, NoMemory>
         requires { count * size < 2 ^ 63 }
         ensures { IfOk result (λ blocks. blocks ≡ replicate count (zero_block size)) }
     {
         if count * size > MOST_OWN_BYTES {
-            let blocks = SharedBlocks::zeroed(alloc, count, size, true)?;
-            return Ok(Blocks {
-                memory: Memory::Shared(blocks),
-            });
+            return Blocks::zeroed(alloc, count, size);
         }
         let blocks = OwnBlocks::zeroed(alloc, count, size);
         Ok(Blocks {

@@ -24,7 +24,7 @@ use std::marker::Model;
 /// The blocks of one unit, which lie on neighbouring LBAs of the namespace.
 ///
 /// Contracts see the first LBA, the block size in bytes, and the list of the blocks. A block's data is a
-/// part of the payload that was written, or a copy in memory of its own or of several blocks. Copies of the unit share all blocks.
+/// part of the payload that was written, or a copy in memory of its own. Copies of the unit share all blocks.
 #[derive(Debug, Drop)]
 pub struct UnitBlocks {
     first: u64,
@@ -133,7 +133,7 @@ impl UnitBlocks {
     /// Makes the act's step, at the cost of its own blocks and of their ways in the tree, whatever else the
     /// unit holds. A Deallocate clears each block once, and costs a walk over the ranges for each run of
     /// blocks that it clears. Where no other unit shares them, these are changed in place: one block that is
-    /// written, blocks of one page that are, and blocks of one leaf that are zeroed, cleared as the only run of a Deallocate, or marked where they are no page.
+    /// written, and blocks of one leaf that are zeroed, marked, or cleared as the only run of a Deallocate.
     /// Blocks in one piece of memory are written and zeroed in place: the first that is written makes all of the unit's bytes, and a mark
     /// and a Deallocate of several runs copy them, which are 65,536 at most.
     /// Where memory is refused, the unit is as it was.

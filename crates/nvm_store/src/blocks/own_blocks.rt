@@ -1,19 +1,18 @@
-ghost use Rattle.std.specs.Prelude.{◌≡◌, ◌⊎◌, ◌+◌, ◌*◌, ◌≤◌, [], IfOk, OnErr, OnOk, false, length, replicate, true};
-ghost use Rattle.std.specs.Bool.{OnTrue};
+ghost use Rattle.std.specs.Prelude.{◌≡◌, ◌⊎◌, ◌+◌, ◌*◌, ◌++◌, ◌≤◌, [], IfNone, IfOk, IfSome, OnErr, OnOk, false, length, true, replicate};
+ghost use Rattle.std.specs.Str.{bytes_eq};
+ghost use Rattle.nvm_record.specs.Medium as medium;
 ghost use Rattle.nvm_record.specs.Step.{block_at};
-ghost use Rattle.nvm_store.specs.Inside.Own.{cut, kept_bytes, with_bytes};
-ghost use Rattle.nvm_store.specs.Inside.Rewrite.{IsRewritten, zero_block};
+ghost use Rattle.nvm_store.specs.Inside.Own.{kept_bytes, with_bytes};
+ghost use Rattle.nvm_store.specs.Inside.Rewrite.{stretch_of, IsRewritten, zero_block};
 ghost use Rattle.nvm_store.specs.Inside.Sound.{AreOfSize};
 
-mod reading;
-
 use crate::blocks::shared_blocks::SharedBlocks;
-use crate::blocks::stored_blocks::StoredBlocks;
-use nvm_record::{NoMemory, PayloadRef};
+use crate::blocks::stored_block::{are_zero, push_zeroes, put_zeroes};
+use nvm_record::{NoMemory, PayloadRef, are_equal};
 use std::alloc::Global;
 use std::marker::Model;
 
-/// The blocks of one unit, or of one leaf of a tree, in one piece of memory that is theirs alone, none of them marked. Contracts see their list.
+/// The blocks of one unit in one piece of memory that is theirs alone, none of them marked. Contracts see their list.
 ///
 /// A change works in place, and only the first asks for memory.
 #[derive(Drop)]
@@ -50,30 +49,6 @@ impl OwnBlocks {
         }
     }
 
-    /// `count` blocks of `size` bytes, which are these, one block after the other. They are copied.
-    pub fn of_bytes(
-        alloc: Global,
-        count: usize,
-        size: usize,
-        bytes: &[u8],
-    ) -> Result<OwnBlocks, NoMemory>
-        requires few { count * size ≤ 65536 }
-        requires bytes { length bytes.now ≡ count * size }
-        ensures { IfOk result (λ blocks. blocks ≡ cut count size bytes.now) }
-    {
-        Ok(OwnBlocks {
-            size,
-            count,
-            bytes: Vec::from_slice(alloc, bytes)?,
-        })
-    }
-
-    /// Whether their memory wasn't asked for, or was given back, so that all of them are zero bytes.
-    #[inline(always)]
-    pub fn is_without_memory(&self) -> bool {
-        self.bytes.is_empty()
-    }
-
     /// How many blocks there are.
     pub fn len(&self) -> usize
         ensures { result ≡ length self.now }
@@ -96,7 +71,7 @@ impl OwnBlocks {
     pub fn shared(&self, alloc: Global) -> Result<SharedBlocks, NoMemory>
         ensures { IfOk result (λ blocks. blocks ≡ self.now) }
     {
-        let mut blocks = SharedBlocks::zeroed(alloc, self.count, self.size, true)?;
+        let mut blocks = SharedBlocks::zeroed(alloc, self.count, self.size)?;
         if self.bytes.is_empty() {
             return Ok(blocks);
         }
@@ -143,48 +118,90 @@ impl OwnBlocks {
         clear(&mut self.bytes, from, len);
     }
 
-    /// Whether this is the size of each block.
+    /// Whether one of the `count` blocks from place `at` is marked: none ever is.
     #[inline(always)]
-    pub fn has_size(&self, size: usize) -> bool
-        ensures { OnTrue result (AreOfSize size self.now) }
+    pub fn has_mark(&self, at: usize, count: usize) -> bool
+        requires { at + count ≤ length self.now }
+        ensures is { result ≡ medium.has_mark (stretch_of at count self.now) }
+        ensures none { result ≡ false }
     {
-        if self.size != size {
-            return false;
-        }
-        true
+        // For the proof alone: each of them is cut from the bytes.
+        let _count = self.count;
+        false
     }
 
-    /// Overwrites the bytes of the `count` blocks from place `at` with the data, and says whether it did. It does where there are so many of this size, and
-    /// their bytes are kept.
+    /// Whether the bytes of the `count` blocks from place `at` are exactly the data. It is never `None`, as of blocks of which one is marked.
     #[inline(always)]
-    pub fn overwrite(&mut self, at: usize, count: usize, size: usize, payload: &[u8]) -> bool
-        requires at { at ≤ length self.old }
-        requires payload { length payload.now ≡ count * size }
-        ensures taken { result ≡ true → IsRewritten at count (block_at size payload.now) self.old self.new }
-        ensures left { result ≡ false → self.new ≡ self.old }
+    pub fn compare(&self, at: usize, count: usize, payload: &[u8]) -> Option<bool>
+        requires { at + count ≤ length self.now }
+        ensures marked { IfNone result (medium.has_mark (stretch_of at count self.now) ≡ true) }
+        ensures same { IfSome result (λ same. (medium.has_mark (stretch_of at count self.now) ≡ false)
+            × (same ≡ bytes_eq (medium.joined (stretch_of at count self.now)) payload.now)) }
     {
-        if size != self.size {
-            return false;
+        if self.has_mark(at, count) {
+            return None;
         }
-        if self.bytes.is_empty() {
-            return false;
-        }
-        if count > self.count - at {
-            return false;
-        }
-        let (start, _len) = bytes_of(self.count, self.size, at, count);
-        put(&mut self.bytes, start, payload);
-        true
+        Some(self.is_equal(at, count, payload))
     }
 
-    /// The same blocks, each kept by itself.
-    pub fn stored(&self, alloc: Global) -> Result<StoredBlocks, NoMemory>
-        ensures { IfOk result (λ blocks. blocks ≡ self.now) }
+    /// Whether the bytes of the `count` blocks from place `at` are exactly the data.
+    #[inline(always)]
+    fn is_equal(&self, at: usize, count: usize, payload: &[u8]) -> bool
+        requires { at + count ≤ length self.now }
+        ensures { result ≡ bytes_eq (medium.joined (stretch_of at count self.now)) payload.now }
     {
+        let (from, len) = bytes_of(self.count, self.size, at, count);
         if self.bytes.is_empty() {
-            return StoredBlocks::zeroed(alloc, self.count, self.size);
+            if payload.len() != len {
+                return false;
+            }
+            return are_zero(payload);
         }
-        StoredBlocks::of_bytes(alloc, self.count, self.size, &self.bytes)
+        are_equal(&self.bytes[from..from + len], payload)
+    }
+
+    /// Appends the bytes of the `count` blocks from place `at`. It takes no memory where `bytes` has room for them.
+    #[inline(always)]
+    pub fn push_bytes(&self, at: usize, count: usize, bytes: &mut Vec<u8>) -> Result<(), NoMemory>
+        requires { at + count ≤ length self.now }
+        ensures { OnOk result
+            (bytes.new.items ≡ bytes.old.items ++ medium.joined (stretch_of at count self.now)) }
+    {
+        let (from, len) = bytes_of(self.count, self.size, at, count);
+        if self.bytes.is_empty() {
+            return push_zeroes(len, bytes);
+        }
+        bytes.extend_from_slice(&self.bytes[from..from + len])
+    }
+
+    /// Puts the bytes of the `count` blocks from place `at` into the buffer, which has room for exactly these, and says that none of them is marked.
+    #[inline(always)]
+    pub fn read_into(&self, at: usize, count: usize, buffer: &mut [u8]) -> bool
+        requires range { at + count ≤ length self.now }
+        requires room { medium.has_mark (stretch_of at count self.now) ≡ false
+            → length buffer.old ≡ length (medium.joined (stretch_of at count self.now)) }
+        ensures marked { result ≡ medium.has_mark (stretch_of at count self.now) }
+        ensures read { buffer.new ≡ medium.joined (stretch_of at count self.now) }
+        ensures none { result ≡ false }
+    {
+        let marked = self.has_mark(at, count);
+        self.copy_to(at, count, buffer);
+        marked
+    }
+
+    /// Puts the bytes of the `count` blocks from place `at` into the buffer, which has room for exactly these.
+    #[inline(always)]
+    fn copy_to(&self, at: usize, count: usize, buffer: &mut [u8])
+        requires range { at + count ≤ length self.now }
+        requires room { length buffer.old ≡ length (medium.joined (stretch_of at count self.now)) }
+        ensures { buffer.new ≡ medium.joined (stretch_of at count self.now) }
+    {
+        let (from, len) = bytes_of(self.count, self.size, at, count);
+        if self.bytes.is_empty() {
+            put_zeroes(buffer, 0, len);
+            return;
+        }
+        buffer.copy_from_slice(&self.bytes[from..from + len]);
     }
 }
 

@@ -221,7 +221,7 @@ pub fn behind_bytes<'a>(bytes: &[u8], payload: &'a [u8]) -> Option<&'a [u8]>
 }
 
 /// The data after `size` zero bytes, or `None` where it doesn't begin with them.
-pub fn behind_zeroes(size: usize, payload: &[u8]) -> Option<&[u8]>
+fn behind_zeroes(size: usize, payload: &[u8]) -> Option<&[u8]>
     ensures { MatchOption result
         ((rest : List ℕ) → replicate size 0 ++ rest ≡ payload.now → ⊥)
         (λ rest. replicate size 0 ++ rest.now ≡ payload.now) }

@@ -6,7 +6,7 @@ use Rattle.nvm_store.specs.Inside.Gathered.{gathered}
 use Rattle.nvm_store.specs.Inside.Pages.{Kept}
 use Rattle.nvm_store.specs.Inside.Rewrite.{IsRewritten, zero_block}
 use Rattle.nvm_store.proofs.GatheredStretches.{counted_change, length_paged}
-use Rattle.nvm_store.proofs.OwnBytes.{at_replicate}
+use Rattle.nvm_store.proofs.Gathering.{at_replicate}
 use Rattle.nvm_store.proofs.Rewrites.{rewritten_all}
 use Rattle.nvm_store.proofs.blocks.paged_blocks.PagedBlocks.zero.Goals as goal
 

@@ -3,7 +3,7 @@ use Rattle.nvm_record.specs.declared.block.Block.{Block}
 use Rattle.std.proofs.Math.ListN.{set}
 use Rattle.nvm_store.specs.Inside.Source.{source_block}
 use Rattle.nvm_store.proofs.Rewrites.{rewritten_more}
-use Rattle.nvm_store.proofs.blocks.stored_blocks.StoredBlocks.fill.Goals as goal
+use Rattle.nvm_store.proofs.blocks.leaf.LeafTree.fill.Goals as goal
 
 pub loop-place-preserved : goal.loop-place-preserved
 loop-place-preserved c =

@@ -1,7 +1,7 @@
 use Rattle.std.proofs.Common.{◌≡◌, ◌+◌, ℕ, length}
 use Rattle.nvm_store.specs.Inside.Source.{source_block}
 use Rattle.nvm_store.proofs.Rewrites.{IsBegun}
-use Rattle.nvm_store.proofs.blocks.stored_blocks.StoredBlocks.filled.Given as goal
+use Rattle.nvm_store.proofs.blocks.leaf.LeafTree.filled.Given as goal
 
 abbrev pub invariant-loop-place : goal.invariant-loop-place
 invariant-loop-place l = record {

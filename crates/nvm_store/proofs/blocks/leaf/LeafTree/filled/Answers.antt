@@ -2,8 +2,8 @@ use Rattle.std.proofs.Common.{◌≡◌, ◌+◌, ◌-◌, ◌<◌, ◌≤◌, �
 use Rattle.std.proofs.lemmas.List.{length-append}
 use Rattle.nvm_store.specs.Inside.Source.{source_block}
 use Rattle.nvm_store.proofs.Rewrites.{begun_more, get_or_at_place, rewritten_whole}
-use Rattle.nvm_store.proofs.blocks.stored_blocks.StoredBlocks.filled.Goals as goal
-use Rattle.nvm_store.proofs.blocks.stored_blocks.StoredBlocks.filled.Goals.{then-place-at+then-place-at-2+in_ok-next, else-place-at+in_ok-next-2, else-place-at-via-then-place-at+else-place-at-2, else-place-at-via-else-place-at}
+use Rattle.nvm_store.proofs.blocks.leaf.LeafTree.filled.Goals as goal
+use Rattle.nvm_store.proofs.blocks.leaf.LeafTree.filled.Goals.{then-place-at+then-place-at-2+in_ok-next, else-place-at+in_ok-next-2, else-place-at-via-then-place-at+else-place-at-2, else-place-at-via-else-place-at}
 
 pub loop-place-preserved : goal.loop-place-preserved
 loop-place-preserved c =

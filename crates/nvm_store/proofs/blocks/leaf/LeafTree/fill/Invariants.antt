@@ -1,7 +1,7 @@
 use Rattle.std.proofs.Common.{◌+◌, ◌-◌, ℕ}
 use Rattle.nvm_store.specs.Inside.Rewrite.{IsRewritten}
 use Rattle.nvm_store.specs.Inside.Source.{source_block}
-use Rattle.nvm_store.proofs.blocks.stored_blocks.StoredBlocks.fill.Given as goal
+use Rattle.nvm_store.proofs.blocks.leaf.LeafTree.fill.Given as goal
 
 abbrev pub invariant-loop-place : goal.invariant-loop-place
 invariant-loop-place l =
