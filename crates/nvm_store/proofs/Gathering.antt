@@ -227,12 +227,12 @@ module _ {A : Type 0} where
         | inr other ↦
             let there_y = at_gathered w rows numbers it.k it.n it.j y there it.number it.below other.1 in
             let off : it.k * w + it.j ≡ q → ⊥ =
-                λ e.
-                let same_k : it.k ≡ k = same_row w it.k k it.j j it.below lt e in
-                let same_j : it.j ≡ j = let e' = ap (λ (m : ℕ). m * w) same_k in omega (arith, e, e') in
-                let number' : IsAt numbers k it.n = subst (λ (m : ℕ). IsAt numbers m it.n) same_k it.number in
-                let same_n : it.n ≡ n = some-injective it.n n (sym number' ∙ at) in
-                other.0 (ap (λ (m : ℕ). m * w + it.j) same_n ∙ ap (λ (m : ℕ). n * w + m) same_j) in
+            λ e.
+            let same_k : it.k ≡ k = same_row w it.k k it.j j it.below lt e in
+            let same_j : it.j ≡ j = let e' = ap (λ (m : ℕ). m * w) same_k in omega (arith, e, e') in
+            let number' : IsAt numbers k it.n = subst (λ (m : ℕ). IsAt numbers m it.n) same_k it.number in
+            let same_n : it.n ≡ n = some-injective it.n n (sym number' ∙ at) in
+            other.0 (ap (λ (m : ℕ). m * w + it.j) same_n ∙ ap (λ (m : ℕ). n * w + m) same_j) in
             subst (λ (m : ℕ). IsAt (set all q x) m y) (sym it.place) (at_set_other all q (it.k * w + it.j) x y off there_y)
       ]))
 
@@ -378,6 +378,7 @@ module _ {A : Type 0} where
       take_set (suc w) [] p x le = refl
       take_set (suc w) (r ∷ rows) zero x le = absurd (omega (arith, le))
       take_set (suc w) (r ∷ rows) (suc p) x le = ap (λ (l : List A). r ∷ l) (take_set w rows p x (omega (arith, le)))
+
       first_stays : (w : ℕ) (rows : List A) (p : ℕ) (x : A) → w ≤ p → row_of w (set rows p x) 0 ≡ row_of w rows 0
       first_stays w rows p x le = let none : 0 * w ≡ 0 = omega arith in rw none (take_set w rows p x le)
 

@@ -97,20 +97,20 @@ impl PagedBlocks {
         self.put_all(at, count, &Source::Data { size, payload })
     }
 
-    /// The `count` blocks from place `at` become zero bytes. Where they are all, their memory is given back, if there is some for one page.
-    pub fn zero(&mut self, alloc: Global, at: usize, count: usize)
+    /// The `count` blocks from place `at` become zero bytes. No page is given back.
+    pub fn zero(&mut self, at: usize, count: usize)
         requires { at + count ≤ length self.old.list }
         ensures size { self.new.size ≡ self.old.size }
         ensures list { IsRewritten at count (λ _. zero_block self.old.size) self.old.list self.new.list }
     {
         let size = self.pages.size();
-        if count == self.count {
-            if let Ok(zeroes) = PagedBlocks::zeroed(alloc, count, size) {
-                *self = zeroes;
-                return;
-            }
-        }
-        fill(&self.numbers, &mut self.pages, at, count, &Source::Zeroes { size });
+        fill(
+            &self.numbers,
+            &mut self.pages,
+            at,
+            count,
+            &Source::Zeroes { size },
+        );
     }
 
     /// The `count` blocks from place `at` are marked.

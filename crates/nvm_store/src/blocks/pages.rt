@@ -6,7 +6,6 @@ ghost use Rattle.nvm_store.specs.Inside.Own.{with_bytes};
 ghost use Rattle.nvm_store.specs.Inside.Rewrite.{IsRewritten, stretch_of, zero_block};
 ghost use Rattle.nvm_store.specs.Inside.Source.{HasBlocks, HasSize, source_block};
 
-use crate::blocks::own_blocks::put;
 use crate::blocks::source::Source;
 use nvm_record::NoMemory;
 use std::alloc::Global;
@@ -171,6 +170,15 @@ impl Pages {
     {
         &self.bytes[at * self.size..(at + count) * self.size]
     }
+}
+
+/// Puts new bytes from place `from` on.
+#[inline(always)]
+fn put(bytes: &mut Vec<u8>, from: usize, new: &[u8])
+    requires { from + length new.now ≤ length bytes.old.items }
+    ensures { bytes.new.items ≡ with_bytes from new.now bytes.old.items }
+{
+    bytes[from..from + new.len()].copy_from_slice(new);
 }
 
 /// Puts `len` zero bytes from place `from` on.

@@ -233,6 +233,16 @@ fn behind_zeroes(size: usize, payload: &[u8]) -> Option<&[u8]>
     if are_zero(front) { Some(rest) } else { None }
 }
 
+/// Whether the data is exactly `len` zero bytes.
+pub fn is_zeroes(len: usize, payload: &[u8]) -> bool
+    ensures { result ≡ bytes_eq (replicate len 0) payload.now }
+{
+    if payload.len() != len {
+        return false;
+    }
+    are_zero(payload)
+}
+
 /// Whether all bytes are zero: the first is, and each is as the one before it.
 pub fn are_zero(bytes: &[u8]) -> bool
     ensures { IsTrue result ↔ (bytes.now ≡ replicate (length bytes.now) 0) }

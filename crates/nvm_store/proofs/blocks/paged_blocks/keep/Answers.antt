@@ -26,12 +26,14 @@ more_paged : (pages others : Kept) (numbers after : List ℕ) (place page : ℕ)
     → others.size ≡ pages.size → others.list ≡ pages.list ++ replicate 8 (zero_block pages.size) → after ≡ set numbers place page
     → ArePaged others after × (gathered 8 others.list after ≡ gathered 8 pages.list numbers)
 more_paged pages others numbers after place page is at next size list put =
-    let now : after ≡ set numbers place (suc (named numbers)) = put ∙ ap (set numbers place) next in
-    (record {
-      gathered = rw (size, list, now) (grown 8 (zero_block pages.size) pages.list numbers place is.gathered at);
-      few = let len = ap length now ∙ length-set numbers place (suc (named numbers)) in let few = is.few in omega (arith, len, few);
-      small = rw size is.small;
-    }, rw (list, now) (grown_same 8 (zero_block pages.size) pages.list numbers place is.gathered at))
+    let now : after ≡ set numbers place (suc (named numbers)) = put ∙ ap (set numbers place) next in (
+      record {
+        gathered = rw (size, list, now) (grown 8 (zero_block pages.size) pages.list numbers place is.gathered at);
+        few = let len = ap length now ∙ length-set numbers place (suc (named numbers)) in let few = is.few in omega (arith, len, few);
+        small = rw size is.small;
+      },
+      rw (list, now) (grown_same 8 (zero_block pages.size) pages.list numbers place is.gathered at),
+    )
 
 pub overflow_cast-page : goal.overflow_cast-page
 overflow_cast-page c =
