@@ -90,6 +90,7 @@ impl Pages {
         // With room for the marks first, all stays as it was where there is no memory.
         self.marks.reserve(more)?;
         let count = self.marks.len() + more;
+        make_room(&mut self.bytes, more * self.size)?;
         self.bytes.resize(count * self.size, 0)?;
         self.marks.resize(count, false)
     }
@@ -170,6 +171,17 @@ impl Pages {
     {
         &self.bytes[at * self.size..(at + count) * self.size]
     }
+}
+
+/// Makes room for so many more bytes: for a quarter of those that there are, if they are more, or for these alone where that is refused.
+fn make_room(bytes: &mut Vec<u8>, more: usize) -> Result<(), NoMemory>
+    ensures { bytes.new.items ≡ bytes.old.items }
+{
+    let much = more.max(bytes.len() / 4);
+    if bytes.reserve_exact(much).is_ok() {
+        return Ok(());
+    }
+    bytes.reserve_exact(more)
 }
 
 /// Puts new bytes from place `from` on.

@@ -15,7 +15,9 @@ filled : (c : After-resize-2) → c.resize.new.self.items
 filled c =
     c.in_ok-resize.ensures.items
     ∙ ap
-    (λ (k : ℕ). take (all c * c.self.inside.size) c.self.inside.bytes.items ++ replicate {A = ℕ} (all c * c.self.inside.size - k) 0) c.self.inside.bytes.ok.0
+    (λ (k : ℕ). take (all c * c.self.inside.size) c.make_room.new.bytes.items ++ replicate {A = ℕ} (all c * c.self.inside.size - k) 0) c.make_room.new.bytes.ok.0
+    ∙ ap
+    (λ (l : List ℕ). take (all c * c.self.inside.size) l ++ replicate {A = ℕ} (all c * c.self.inside.size - length l) 0) c.make_room.ensures
 
 set : (c : After-resize-2) → c.resize-2.new.self.items
     ≡ take (all c) c.self.inside.marks.items ++ replicate (all c - length c.self.inside.marks.items) false
