@@ -775,34 +775,39 @@ static bool large_units(void)
     return right;
 }
 
-/* In such a unit eight blocks that were written at once are a page: then no Write in them takes memory. A Write Zeroes of all eight gives theirs back, also
- * where they are zeroes already, so that the next Write of them is refused without. Where memory is refused at the nth time to a Write of two pages, to one
- * of parts of both, or to a mark in one, all blocks are as they were. */
+/* A unit of more bytes keeps pages of eight blocks. Once one of a page was written or marked, no command in it takes memory, also one in several pages, and
+ * also after it was zeroed; the first Write in a page is refused without. A Write Zeroes of all blocks gives all pages back. Where memory is refused at the nth
+ * time to a Write or a mark in pages of which some weren't written, all blocks are as they were. */
 static bool pages(void)
 {
     enum { BLOCKS = 256, PAGE = 8 };
     static const struct zk_namespace large = { BLOCKS, BLOCK, BLOCKS - 1, 0, BLOCKS - 1, BLOCKS - 1 };
-    static uint8_t data[2 * PAGE * BLOCK], read[2 * PAGE * BLOCK], before[2 * PAGE * BLOCK];
+    static uint8_t data[4 * PAGE * BLOCK], read[4 * PAGE * BLOCK], before[4 * PAGE * BLOCK];
     if (zk_open(ports, 1, &large, ZK_NO_LIMIT, false) != ZK_DONE)
         return false;
     memset(data, 7, sizeof data);
-    bool right = done_or_as_before(WRITE, PAGE, 2 * PAGE, data, PAGE, 2 * PAGE, before);
-    memcpy(before, data, sizeof data);
-    memset(data + 6 * BLOCK, 9, 4 * BLOCK);
-    right &= done_or_as_before(WRITE, PAGE + 6, 4, data + 6 * BLOCK, PAGE, 2 * PAGE, before);
+    bool right = done_or_as_before(WRITE, PAGE + 5, 2 * PAGE, data, PAGE, 4 * PAGE, before);
+    memcpy(before + 5 * BLOCK, data, 2 * PAGE * BLOCK);
     refuses = true;
-    memset(data + 2 * BLOCK, 5, 3 * BLOCK);
-    right &= status_after(WRITE, PAGE + 2, 3, data + 2 * BLOCK, 3 * BLOCK) == 0 && status_after(COMPARE, PAGE, 2 * PAGE, data, sizeof data) == 0;
-    right &= status_after(WRITE, PAGE, PAGE, data, PAGE * BLOCK) == 0 && status_after(WRITE_ZEROES, 2 * PAGE, PAGE, NULL, 0) == 0;
-    memset(data + PAGE * BLOCK, 0, PAGE * BLOCK);
-    right &= status_after(READ, PAGE, 2 * PAGE, read, sizeof read) == 0 && memcmp(read, data, sizeof read) == 0;
-    right &= status_after(WRITE, 2 * PAGE, PAGE, data, PAGE * BLOCK) == 0x006;
-    right &= status_after(WRITE_ZEROES, PAGE, 5, NULL, 0) == 0 && status_after(WRITE_ZEROES, PAGE + 5, 3, NULL, 0) == 0;
-    right &= status_after(WRITE_ZEROES, PAGE, PAGE, NULL, 0) == 0 && status_after(WRITE, PAGE, PAGE, data, PAGE * BLOCK) == 0x006;
+    memset(before + 2 * BLOCK, 5, 12 * BLOCK);
+    right &= status_after(WRITE, PAGE + 2, 12, before + 2 * BLOCK, 12 * BLOCK) == 0 && status_after(COMPARE, PAGE, 3 * PAGE, before, 3 * PAGE * BLOCK) == 0;
+    right &= status_after(WRITE_UNCORRECTABLE, PAGE + 7, 2, NULL, 0) == 0 && status_after(READ, PAGE, PAGE, read, PAGE * BLOCK) == 0x281;
+    right &= status_after(READ, PAGE + 9, 15, read, 15 * BLOCK) == 0 && memcmp(read, before + 9 * BLOCK, 15 * BLOCK) == 0;
+    right &= status_after(WRITE, PAGE + 7, 2, before + 7 * BLOCK, 2 * BLOCK) == 0 && status_after(READ, PAGE, 3 * PAGE, read, 3 * PAGE * BLOCK) == 0;
+    right &= memcmp(read, before, 3 * PAGE * BLOCK) == 0;
+    right &= status_after(WRITE_ZEROES, PAGE + 6, 4, NULL, 0) == 0 && status_after(WRITE_ZEROES, 3 * PAGE + 5, 2, NULL, 0) == 0;
+    memset(before + 6 * BLOCK, 0, 4 * BLOCK);
+    memset(before + 21 * BLOCK, 0, 2 * BLOCK);
+    right &= status_after(READ, PAGE, 4 * PAGE, read, sizeof read) == 0 && memcmp(read, before, sizeof read) == 0;
+    right &= status_after(WRITE, 4 * PAGE, 1, data, BLOCK) == 0x006 && status_after(WRITE_UNCORRECTABLE, 4 * PAGE, 1, NULL, 0) == 0x006;
     refuses = false;
-    right &= status_after(WRITE, PAGE, PAGE, data, PAGE * BLOCK) == 0 && done_or_as_before(WRITE_UNCORRECTABLE, PAGE + 1, 1, NULL, PAGE, 2 * PAGE, data);
-    right &= status_after(READ, PAGE, 2, read, 2 * BLOCK) == 0x281 && status_after(COMPARE, PAGE, 1, data, BLOCK) == 0;
-    right &= status_after(COMPARE, PAGE + 2, PAGE, data + 2 * BLOCK, PAGE * BLOCK) == 0;
+    right &= done_or_as_before(WRITE_UNCORRECTABLE, 3 * PAGE + 7, 2, NULL, PAGE, 4 * PAGE, before) && status_after(READ, 4 * PAGE, 1, read, BLOCK) == 0x281;
+    right &= status_after(WRITE_ZEROES, 0, BLOCKS, NULL, 0) == 0;
+    refuses = true;
+    right &= status_after(WRITE, PAGE, PAGE, data, PAGE * BLOCK) == 0x006 && status_after(WRITE_ZEROES, 0, BLOCKS, NULL, 0) == 0;
+    memset(before, 0, sizeof before);
+    right &= status_after(READ, PAGE, 4 * PAGE, read, sizeof read) == 0 && memcmp(read, before, sizeof read) == 0;
+    refuses = false;
     zk_close(ports);
     return right;
 }

@@ -90,13 +90,6 @@ unmarked_cut (suc n) s bytes = unmarked_cut n s (drop s bytes)
 pub unmarked_stretch : (at count n s : ℕ) (bytes : List ℕ) → at + count ≤ n → has_mark (stretch_of at count (cut n s bytes)) ≡ false
 unmarked_stretch at count n s bytes within = ap has_mark (stretch_cut at count n s bytes within) ∙ unmarked_cut count s (drop (at * s) bytes)
 
--- Blocks of which no byte is kept are zero.
-pub zero_stretch : (n s at count : ℕ) → at + count ≤ n → All (λ block. block ≡ zero_block s) (stretch_of at count (cut n s (replicate (n * s) 0)))
-zero_stretch n s at count within =
-    let zeroes : stretch_of at count (replicate n (zero_block s)) ≡ replicate count (zero_block s) =
-    ap (take count) (drop-replicate at n (zero_block s)) ∙ take-replicate count (n - at) (zero_block s) (omega arith) in
-    rw (zeroes_cut n s, zeroes) (All-replicate (λ block. block ≡ zero_block s) count (zero_block s) refl)
-
 -- Bytes that are all there are kept.
 pub kept_whole : (len : ℕ) (bytes : List ℕ) → length bytes ≡ len → kept_bytes len bytes ≡ bytes
 kept_whole len [] is = rw (sym is) refl
@@ -259,7 +252,7 @@ zeroed_cut size n s at count bytes sized whole within =
       others = put.others;
     }
 
-pub at_replicate : (n : ℕ) (b : Block) (i : ℕ) → i < n → IsAt (replicate n b) i b
+at_replicate : (n : ℕ) (b : Block) (i : ℕ) → i < n → IsAt (replicate n b) i b
 at_replicate zero b i lt = absurd (omega arith)
 at_replicate (suc n) b zero lt = refl
 at_replicate (suc n) b (suc i) lt = at_replicate n b i (omega arith)
@@ -389,14 +382,6 @@ sized_cut n s bytes whole i block is =
     let left : length (drop (i * s) bytes) ≡ length bytes - i * s = length-drop (i * s) bytes in
     subst (λ (b : Block). IsOfSize s b) (sym here.1) (length-take-le s (drop (i * s) bytes) (omega (arith, left, whole, far, e)))
 
--- One more block is cut.
-pub cut_more : (n s : ℕ) (bytes : List ℕ) → cut (n + 1) s bytes ≡ cut n s bytes ++ block_at s bytes n ∷ []
-cut_more zero s bytes = let none : 0 * s ≡ 0 = omega arith in rw none refl
-cut_more (suc n) s bytes =
-    let e : suc n + 1 ≡ suc (n + 1) = omega arith in
-    rw e (ap (λ (l : List Block). Bytes (take s bytes) ∷ l)
-    (cut_more n s (drop s bytes) ∙ ap (λ (l : List ℕ). cut n s (drop s bytes) ++ Bytes (take s l) ∷ []) (next n s bytes)))
-
 -- A block of a part of data is one of the data.
 pub block_of_part : (size from count : ℕ) (xs : List ℕ) (i : ℕ) → i < count
     → block_at size (slice_range xs (from * size) (from * size + count * size)) i ≡ block_at size xs (from + i)
@@ -413,18 +398,3 @@ block_of_part size from count xs i lt =
     ∙ ap Bytes (take-take size (m - i * size) (drop (i * size) rest) (omega (arith, far, e)))
     ∙ ap (λ (l : List ℕ). Bytes (take size l)) (drop-drop (i * size) (from * size) xs)
     ∙ ap (λ (k : ℕ). Bytes (take size (drop k xs))) there
-
--- Data of one block is that block.
-pub first_block : (size : ℕ) (payload : List ℕ) → length payload ≡ 1 * size → block_at size payload 0 ≡ Bytes payload
-first_block size payload len =
-    let none : 0 * size ≡ 0 = omega arith in
-    let all : take size payload ≡ payload = take_all size payload (omega (arith, len)) in
-    rw none (ap Bytes all)
-
--- What is cut doesn't depend on the bytes behind it.
-cut_front : (n s : ℕ) (bytes : List ℕ) → cut n s (take (n * s) bytes) ≡ cut n s bytes
-cut_front zero s bytes = refl
-cut_front (suc n) s bytes =
-    let front : take s (take (s + n * s) bytes) ≡ take s bytes = take-take s (s + n * s) bytes (omega arith) in
-    let rest : drop s (take (s + n * s) bytes) ≡ take (n * s) (drop s bytes) = drop-take s (n * s) bytes in
-    rw (more n s, front, rest) (ap (λ (l : List Block). Bytes (take s bytes) ∷ l) (cut_front n s (drop s bytes)))

@@ -1,11 +1,11 @@
 -- The blocks of parts of one span, joined: where a place lies, and what a change there does.
-use Rattle.std.proofs.Common.{◌≡◌, ℕ, zero, suc, ◌+◌, ◌*◌, ◌/◌, ◌%◌, ◌<◌, ◌≤◌, List, [], ◌∷◌, ◌++◌, length, get_or, take, drop, replicate, Bool, true, false, refl, sym, ap, ◌∙◌, arith, inl, inr}
+use Rattle.std.proofs.Common.{◌≡◌, ℕ, zero, suc, ◌+◌, ◌-◌, ◌*◌, ◌/◌, ◌%◌, ◌<◌, ◌≤◌, List, [], ◌∷◌, ◌++◌, length, get_or, take, drop, replicate, Bool, true, false, refl, sym, ap, ◌∙◌, arith, inl, inr}
 use Rattle.std.proofs.Math.ListN.{set, length-take}
 use Rattle.std.proofs.Math.Nat.{div-add-mod}
 use Rattle.std.proofs.Math.Seq.{drop-append-add, map-set_same}
-use Rattle.std.proofs.lemmas.List.{drop-append-le, take-append-le, length-append, length-map, get_or-map, map-set, map-append, take_more, replicate-append-replicate}
+use Rattle.std.proofs.lemmas.List.{drop-append-le, take-append-le, set-append_left, set-append_right, length-append, length-map, get_or-map, map-set, map-append, length-set, take_more, replicate-append-replicate}
 use Rattle.std.proofs.lemmas.Nat.{div_below, mod_below}
-use Rattle.std.specs.Prelude.{Result, Ok, Err, IfOk, OnErr, OnOk}
+use Rattle.std.specs.Prelude.{Result, Ok, Err, IfOk, OnOk, OnErr}
 use Rattle.std.specs.Arc.{arc_value}
 use Rattle.std.specs.declared.sync.Arc.{Arc}
 use Rattle.nvm_record.specs.declared.block.Block.{Block}
@@ -52,6 +52,22 @@ drop-joined_parts span (p ∷ ps) (suc k) r at spans lt rt e =
     let there : at ≡ length p + (k * span + r) = grind (arith, len, e) in
     rw there (drop-append-add p (joined_parts ps) (k * span + r)
     ∙ drop-joined_parts span ps k r (k * span + r) spans.1 (omega arith) rt refl)
+
+-- a change at a place of the k-th part
+pub set-joined_parts : (span : ℕ) (parts : List (List Block)) (k r at : ℕ) (x : Block) → AreOfSpan span parts → k < length parts → r < span
+    → at ≡ k * span + r → set (joined_parts parts) at x ≡ joined_parts (set parts k (set (get_or parts k []) r x))
+set-joined_parts span [] k r at x spans lt rt e = absurd (omega arith)
+set-joined_parts span (p ∷ ps) zero r at x spans lt rt e =
+    let len : length p ≡ span = spans.0 in
+    let here : at ≡ r = omega arith in
+    rw here (set-append_left p (joined_parts ps) r x (omega arith))
+set-joined_parts span (p ∷ ps) (suc k) r at x spans lt rt e =
+    let len : length p ≡ span = spans.0 in
+    let there : at ≡ span + (k * span + r) = grind (arith, e) in
+    let rest : at - span ≡ k * span + r = omega arith in
+    set-append_right p (joined_parts ps) span at x len (omega arith)
+    ∙ ap (λ (n : ℕ). p ++ set (joined_parts ps) n x) rest
+    ∙ ap (λ (bs : List Block). p ++ bs) (set-joined_parts span ps k r (k * span + r) x spans.1 (omega arith) rt refl)
 
 -- A range of the k-th part is rewritten.
 pub rewritten-joined_parts : (span : ℕ) (parts : List (List Block)) (k r at n : ℕ) (news : ℕ → Block) (part : List Block) → AreOfSpan span parts
@@ -123,6 +139,23 @@ module _ {X Z : Type 0} where
       let len' : length (blocks (arc_value kid)) ≡ span = rw (part_is blocks kids k kid kid lies.part is) at len in
       rw len' lies.within
 
+  -- A child with a changed block takes the place of the one before.
+  pub set_in_kids : (blocks : X → List Block) (kids : List (Arc X Z)) (span at : ℕ) (x : Block) (kid other : Arc X Z) → IsFork span (parts_of blocks kids)
+      → LiesIn span at (length kids) → get_or kids (at / span) kid ≡ kid
+      → blocks (arc_value other) ≡ set (blocks (arc_value kid)) (at % span) x
+      → joined_parts (parts_of blocks (set kids (at / span) other)) ≡ set (joined_parts (parts_of blocks kids)) at x
+  set_in_kids blocks kids span at x kid other fork lies is changed =
+      let k = at / span in
+      let r = at % span in
+      let parts = parts_of blocks kids in
+      let count : k < length parts = rw (parts_count blocks kids) lies.part in
+      let part : get_or parts k [] ≡ blocks (arc_value kid) = part_is blocks kids k kid kid lies.part is in
+      let now : blocks (arc_value other) ≡ set (get_or parts k []) r x = rw part changed in
+      let moved : parts_of blocks (set kids k other) ≡ set parts k (blocks (arc_value other)) =
+      map-set (λ (a : Arc X Z). blocks (arc_value a)) kids k other in
+      ap joined_parts (moved ∙ ap (λ (bs : List Block). set parts k bs) now)
+      ∙ sym (set-joined_parts span parts k r at x fork.spans count lies.within lies.is)
+
   -- A child that has the same blocks changes none.
   pub same_in_kids : (blocks : X → List Block) (kids : List (Arc X Z)) (k : ℕ) (kid other : Arc X Z) → k < length kids
       → get_or kids k kid ≡ kid → blocks (arc_value other) ≡ blocks (arc_value kid)
@@ -130,36 +163,30 @@ module _ {X Z : Type 0} where
   same_in_kids blocks kids k kid other lt is same =
       map-set_same (λ (a : Arc X Z). blocks (arc_value a)) kids k other kid (same ∙ ap (λ (a : Arc X Z). blocks (arc_value a)) (sym is))
 
-  -- A child of which some blocks are new takes the place of the one before.
-  pub rewritten_in_kids : (blocks : X → List Block) (kids : List (Arc X Z)) (span at n : ℕ) (news : ℕ → Block) (kid other : Arc X Z)
-      → IsFork span (parts_of blocks kids) → LiesIn span at (length kids) → get_or kids (at / span) kid ≡ kid
-      → IsRewritten (at % span) n news (blocks (arc_value kid)) (blocks (arc_value other))
-      → IsRewritten at n news (joined_parts (parts_of blocks kids)) (joined_parts (parts_of blocks (set kids (at / span) other)))
-  rewritten_in_kids blocks kids span at n news kid other fork lies is put =
-      let k = at / span in
-      let r = at % span in
-      let parts = parts_of blocks kids in
-      let count : k < length parts = rw (parts_count blocks kids) lies.part in
-      let part : get_or parts k [] ≡ blocks (arc_value kid) = part_is blocks kids k kid kid lies.part is in
-      let now : IsRewritten r n news (get_or parts k []) (blocks (arc_value other)) = rw part put in
-      let moved : parts_of blocks (set kids k other) ≡ set parts k (blocks (arc_value other)) =
-      map-set (λ (a : Arc X Z). blocks (arc_value a)) kids k other in
-      rw moved (rewritten-joined_parts span parts k r at n news (blocks (arc_value other)) fork.spans count lies.is now)
-
   -- A child that was filled takes the place of the one before.
   pub filled_in_kids : (blocks : X → List Block) (kids : List (Arc X Z)) (span at from to least n : ℕ) (source : Source) (kid other : Arc X Z)
       → IsFork span (parts_of blocks kids) → LiesIn span at (length kids) → get_or kids (at / span) kid ≡ kid
       → IsFilled source (at % span) from to least n (blocks (arc_value kid)) (blocks (arc_value other))
       → IsFilled source at from to least n (joined_parts (parts_of blocks kids)) (joined_parts (parts_of blocks (set kids (at / span) other)))
-  filled_in_kids blocks kids span at from to least n source kid other fork lies is filled = record {
-    enough =
-        elim filled.enough [
-          | inl all ↦ inl all
-          | inr none ↦ inr (none.0, none.1, ap joined_parts (same_in_kids blocks kids (at / span) kid other lies.part is none.2))
-        ];
-    few = filled.few;
-    is = rewritten_in_kids blocks kids span at n (λ i. source_block source (from + i)) kid other fork lies is filled.is;
-  }
+  filled_in_kids blocks kids span at from to least n source kid other fork lies is filled =
+      let k = at / span in
+      let r = at % span in
+      let parts = parts_of blocks kids in
+      let count : k < length parts = rw (parts_count blocks kids) lies.part in
+      let part : get_or parts k [] ≡ blocks (arc_value kid) = part_is blocks kids k kid kid lies.part is in
+      let news = λ (i : ℕ). source_block source (from + i) in
+      let now : IsRewritten r n news (get_or parts k []) (blocks (arc_value other)) = rw part filled.is in
+      let moved : parts_of blocks (set kids k other) ≡ set parts k (blocks (arc_value other)) =
+      map-set (λ (a : Arc X Z). blocks (arc_value a)) kids k other in
+      record {
+        enough =
+            elim filled.enough [
+              | inl all ↦ inl all
+              | inr none ↦ inr (none.0, none.1, ap joined_parts (same_in_kids blocks kids k kid other lies.part is none.2))
+            ];
+        few = filled.few;
+        is = rw moved (rewritten-joined_parts span parts k r at n news (blocks (arc_value other)) fork.spans count lies.is now);
+      }
 
   -- A child of the span's length keeps the fork one.
   pub fork-set : (blocks : X → List Block) (kids : List (Arc X Z)) (span at : ℕ) (kid other : Arc X Z) → IsFork span (parts_of blocks kids)
@@ -191,15 +218,15 @@ module _ {X Z : Type 0} where
       ∙ sym more
 
 -- A change leaves as many blocks, also where it is refused.
-pub overwriting_keeps_length : (taken : Bool) (old new : List Block) (at n : ℕ) (news : ℕ → Block)
-    → (taken ≡ true → IsRewritten at n news old new) → (taken ≡ false → new ≡ old) → length new ≡ length old
-overwriting_keeps_length true old new at n news ok left = (ok refl).len
-overwriting_keeps_length false old new at n news ok left = ap length (left refl)
+pub keeps_length : {T E : Type 0} (r : Result T E) (old new : List Block) (i : ℕ) (x : Block)
+    → OnOk r (new ≡ set old i x) → OnErr r (new ≡ old) → length new ≡ length old
+keeps_length (Ok y) old new i x ok err = ap length ok ∙ length-set old i x
+keeps_length (Err y) old new i x ok err = ap length err
 
-pub setting_keeps_length : {T E : Type 0} (r : Result T E) (old new : List Block) (at : ℕ) (news : ℕ → Block)
-    → OnOk r (IsRewritten at 1 news old new) → OnErr r (new ≡ old) → length new ≡ length old
-setting_keeps_length (Ok y) old new at news ok err = ok.len
-setting_keeps_length (Err y) old new at news ok err = ap length err
+pub overwriting_keeps_length : (taken : Bool) (old new : List Block) (i : ℕ) (x : Block)
+    → (taken ≡ true → new ≡ set old i x) → (taken ≡ false → new ≡ old) → length new ≡ length old
+overwriting_keeps_length true old new i x ok left = ap length (ok refl) ∙ length-set old i x
+overwriting_keeps_length false old new i x ok left = ap length (left refl)
 
 pub filling_keeps_length : {E : Type 0} (r : Result ℕ E) (source : Source) (at from to least : ℕ) (old new : List Block)
     → IfOk r (λ n. IsFilled source at from to least n old new) → OnErr r (new ≡ old) → length new ≡ length old

@@ -95,15 +95,6 @@ rewritten_more at i place news old mid new so_far here below put = record {
 pub rewritten_none : (at : ℕ) (news : ℕ → Block) (old : List Block) → IsRewritten at 0 news old old
 rewritten_none at news old = record { len = refl; rewritten = λ j lt. absurd (omega arith); others = λ j block out is. is }
 
--- What is new may be said otherwise.
-pub rewritten_same : (at n : ℕ) (news others : ℕ → Block) (old new : List Block) → ((i : ℕ) → i < n → news i ≡ others i)
-    → IsRewritten at n news old new → IsRewritten at n others old new
-rewritten_same at n news others old new same put = record {
-  len = put.len;
-  rewritten = λ i lt. subst (λ (b : Block). IsAt new (at + i) b) (same i lt) (put.rewritten i lt);
-  others = put.others;
-}
-
 -- Where all blocks are new, it doesn't matter which there were.
 pub rewritten_all : (n : ℕ) (news : ℕ → Block) (old new : List Block) → length new ≡ n → length old ≡ n
     → ((i : ℕ) → i < n → IsAt new i (news i)) → IsRewritten 0 n news old new
@@ -114,6 +105,15 @@ rewritten_all n news old new count same at = record {
       λ j block out is.
       let below : j < length old = at_below old j block is in
       absurd (elim out [ inl low ↦ omega arith | inr high ↦ omega (arith, below, same) ]);
+}
+
+-- What is new may be said otherwise.
+pub rewritten_same : (at n : ℕ) (news others : ℕ → Block) (old new : List Block) → ((i : ℕ) → i < n → news i ≡ others i)
+    → IsRewritten at n news old new → IsRewritten at n others old new
+rewritten_same at n news others old new same put = record {
+  len = put.len;
+  rewritten = λ i lt. subst (λ (b : Block). IsAt new (at + i) b) (same i lt) (put.rewritten i lt);
+  others = put.others;
 }
 
 -- Some more blocks are put after those that are already new.

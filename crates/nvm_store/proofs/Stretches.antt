@@ -2,7 +2,7 @@
 use Rattle.std.proofs.Common.{◌≡◌, ℕ, zero, suc, ◌+◌, ◌-◌, ◌<◌, ◌≤◌, List, [], ◌∷◌, ◌++◌, length, take, drop, ◌||◌, All, append_assoc, refl, sym, ap, ◌∙◌, subst, arith}
 use mathlib.Core.Option.{some, some-ne-none}
 use Rattle.std.proofs.Math.Seq.{take-add}
-use Rattle.std.proofs.lemmas.List.{drop-drop, drop-take, take-take, length-drop, length-take-le}
+use Rattle.std.proofs.lemmas.List.{drop-drop, drop-take, take-take, length-take-le}
 use Rattle.std.proofs.lemmas.List.Elements.{All-head, All-tail}
 use Rattle.nvm_record.specs.declared.block.Block.{Block}
 use Rattle.nvm_record.specs.declared.block.Block.TheVariants.{Bytes, Uncorrectable}
@@ -23,16 +23,6 @@ front_of_stretch all count from n stretch is few within =
     rw len
     (ap (take n) kept ∙ take-take n m (drop from all) (omega arith)
     ∙ sym (ap (take n) (sym is.is) ∙ take-take n (length stretch) (drop from all) few))
-
--- The front of what a leaf has from a place on is one of the blocks that count.
-pub front_of_leaf : (all : List Block) (count from n : ℕ) (leaf : List Block) (at : ℕ) → IsStretch all from (drop at leaf) → at + n ≤ length leaf → from + n ≤ count
-    → stretch_of from n (take count all) ≡ stretch_of at n leaf
-front_of_leaf all count from n leaf at is few within =
-    let len : length (drop at leaf) ≡ length leaf - at = length-drop at leaf in
-    let enough : n ≤ length (drop at leaf) = omega (arith, len, few) in
-    let front = front_of_stretch all count from n (drop at leaf) is enough within in
-    let short : length (take n (drop at leaf)) ≡ n = length-take-le n (drop at leaf) enough in
-    rw short at front
 
 -- A range is its stretch and what is after it.
 pub next_stretch : (blocks stretch : List Block) (from left n : ℕ) → stretch_of from n blocks ≡ stretch → n ≤ left
@@ -60,11 +50,6 @@ pub joined_stretches : (blocks stretch : List Block) (from left n : ℕ) → str
     → joined (stretch_of from left blocks) ≡ joined stretch ++ joined (stretch_of (from + n) (left - n) blocks)
 joined_stretches blocks stretch from left n is le =
     ap joined (next_stretch blocks stretch from left n is le) ∙ joined-append stretch (stretch_of (from + n) (left - n) blocks)
-
-pub length-stretch_of : (at n : ℕ) (blocks : List Block) → at + n ≤ length blocks → length (stretch_of at n blocks) ≡ n
-length-stretch_of at n blocks within =
-    let len : length (drop at blocks) ≡ length blocks - at = length-drop at blocks in
-    length-take-le n (drop at blocks) (omega (arith, len, within))
 
 -- A stretch of one block, again and again, has it at each place.
 at_drop_back : (from : ℕ) (blocks : List Block) (i : ℕ) (block : Block) → IsAt (drop from blocks) i block → IsAt blocks (from + i) block

@@ -5,9 +5,11 @@ pub mod Sound
 pub mod Rewrite
 pub mod Stored
 pub mod Tree
-pub mod Leaf
 pub mod Levels
 pub mod Source
 -- The blocks of a unit in one piece of memory.
 pub mod Own
 pub mod Memory
+-- Rows that are known by their numbers, and pages of blocks.
+pub mod Gathered
+pub mod Pages

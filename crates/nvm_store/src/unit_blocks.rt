@@ -1,4 +1,4 @@
-ghost use Rattle.std.specs.Prelude.{◌≡◌, ◌↔◌, ◌+◌, ◌*◌, ◌^◌, ◌<◌, ◌≤◌, IfOk, IsTrue, OnErr, OnOk, length};
+ghost use Rattle.std.specs.Prelude.{◌≡◌, ◌↔◌, ◌+◌, ◌*◌, ◌^◌, ◌<◌, ◌≤◌, IfOk, IsTrue, OnErr, OnOk, length, true};
 ghost use Rattle.nvm_record.specs.Medium.{Medium, zero_medium};
 ghost use Rattle.nvm_record.specs.Step.{medium_after};
 ghost use Rattle.nvm_record.specs.PayloadRef.{lent_bytes};
@@ -7,6 +7,8 @@ ghost use Rattle.nvm_store.specs.Operation.{write_operation, zeroes_operation, u
 ghost use Rattle.nvm_store.specs.ActRef.{lent_operation_of};
 ghost use Rattle.nvm_store.specs.Look.{look_operation_of};
 ghost use Rattle.nvm_store.specs.Contents.{Holds, LiesAt, Covers, Succeeds, StaysInPlace, place_of};
+ghost use Rattle.nvm_store.specs.Inside.Memory.{unit_from};
+ghost use Rattle.nvm_store.specs.Inside.Sound.{AreSound};
 ghost use Rattle.nvm_store.specs.Place.{IsWithin, place_at};
 
 mod reading;
@@ -24,7 +26,7 @@ use std::marker::Model;
 /// The blocks of one unit, which lie on neighbouring LBAs of the namespace.
 ///
 /// Contracts see the first LBA, the block size in bytes, and the list of the blocks. A block's data is a
-/// part of the payload that was written, or a copy in memory of its own or of several blocks. Copies of the unit share all blocks.
+/// part of the payload that was written, or a copy in memory of its own. Copies of the unit share all blocks.
 #[derive(Debug, Drop)]
 pub struct UnitBlocks {
     first: u64,
@@ -34,17 +36,17 @@ pub struct UnitBlocks {
 
 impl Model for UnitBlocks {
     ghost use Rattle.nvm_store.specs.Contents.{Contents};
-    ghost use Rattle.nvm_store.specs.Inside.Sound.{AreSound};
+    ghost use Rattle.nvm_store.specs.Inside.Memory.{IsUnit};
 
     ghost Value = { Contents };
 
     ghost view = { λ u. record {
       first = u.first;
       size = u.size;
-      blocks = u.blocks;
+      blocks = u.blocks.list;
     } };
 
-    ghost invariant = { λ u. AreSound u.first u.size u.blocks };
+    ghost invariant = { λ u. IsUnit u.first u.size u.blocks };
 }
 
 impl UnitBlocks {
@@ -69,7 +71,8 @@ impl UnitBlocks {
     }
 
     /// What [`zeroed`](UnitBlocks::zeroed) gives, to be changed in place. Where its blocks have at most 65,536 bytes they are in one piece of
-    /// memory, which the first Write asks for, and a share of the unit copies. They move into a tree once one of them is marked.
+    /// memory, which the first Write asks for, and a share of the unit copies. They move into a tree once one of them is marked. More blocks of at
+    /// most 512 bytes are in pages of 8, which take memory once one of theirs is written or marked, and a share copies these too.
     pub fn own(
         alloc: Global,
         first: u64,
@@ -133,9 +136,9 @@ impl UnitBlocks {
     /// Makes the act's step, at the cost of its own blocks and of their ways in the tree, whatever else the
     /// unit holds. A Deallocate clears each block once, and costs a walk over the ranges for each run of
     /// blocks that it clears. Where no other unit shares them, these are changed in place: one block that is
-    /// written, blocks of one page that are, and blocks of one leaf that are zeroed, cleared as the only run of a Deallocate, or marked where they are no page.
+    /// written, and blocks of one leaf that are zeroed, marked, or cleared as the only run of a Deallocate.
     /// Blocks in one piece of memory are written and zeroed in place: the first that is written makes all of the unit's bytes, and a mark
-    /// and a Deallocate of several runs copy them, which are 65,536 at most.
+    /// copies them, which are 65,536 at most. Blocks in pages of the unit's own are always changed in place.
     /// Where memory is refused, the unit is as it was.
     #[inline(always)]
     pub fn change(&mut self, alloc: Global, act: ActRef<'_>) -> Result<(), NoMemory>
@@ -186,9 +189,8 @@ impl UnitBlocks {
         ensures err { OnErr result (self.new ≡ self.old) }
     {
         let at = (first - self.first) as usize;
-        let size = self.size.bytes() as usize;
         steps_are_local();
-        self.blocks.write(alloc, at, blocks as usize, size, payload)
+        self.blocks.write(alloc, at, blocks as usize, payload)
     }
 
     /// The `blocks` LBAs from `first` become zero bytes.
@@ -200,9 +202,8 @@ impl UnitBlocks {
         ensures err { OnErr result (self.new ≡ self.old) }
     {
         let at = (first - self.first) as usize;
-        let size = self.size.bytes() as usize;
         steps_are_local();
-        self.blocks.zero(alloc, at, blocks as usize, size)
+        self.blocks.zero(alloc, at, blocks as usize)
     }
 
     /// The `blocks` LBAs from `first` are marked.
@@ -219,8 +220,8 @@ impl UnitBlocks {
     }
 
     /// Those of the `blocks` LBAs from `first` that are in one of the ranges become zero bytes. One run of them is
-    /// cleared as a Write Zeroes is. Several are cleared in a share, which takes the unit's place where nothing was
-    /// refused.
+    /// cleared as a Write Zeroes is. Several are cleared in place in memory of the unit's own, and else in a share, which takes the unit's
+    /// place where nothing was refused.
     fn deallocate(
         &mut self,
         alloc: Global,
@@ -244,6 +245,10 @@ impl UnitBlocks {
         let left = blocks - (past - first) as u32;
         if lowest_cut(past, left, ranges).is_none() {
             return self.zero(alloc, run.first, run.blocks);
+        }
+        if self.blocks.is_own() {
+            clear_runs(&mut self.blocks, alloc, self.first, first, blocks, ranges);
+            return Ok(());
         }
         *self = self.deallocated(alloc, first, blocks, ranges)?;
         Ok(())
@@ -275,5 +280,31 @@ impl UnitBlocks {
             from = past;
         }
         Ok(after)
+    }
+}
+
+/// Of blocks in memory of their own, which begin at LBA `start`, those become zero bytes that are among the `count` LBAs from `first` and in
+/// one of the ranges. That is never refused.
+fn clear_runs(blocks: &mut Blocks, alloc: Global, start: u64, first: u64, count: u32, ranges: &[u8])
+    requires own { blocks.old.own ≡ true }
+    requires sound { AreSound start blocks.old.size blocks.old.list }
+    requires range { IsWithin (place_of (unit_from start blocks.old)) first count }
+    ensures sound { AreSound start blocks.new.size blocks.new.list }
+    ensures place { StaysInPlace (unit_from start blocks.old) (unit_from start blocks.new) }
+    ensures step { (m : Medium) → Holds (unit_from start blocks.old) m → Holds (unit_from start blocks.new)
+        (medium_after blocks.old.size (deallocate_operation first count (ranges_of ranges.now)) m) }
+{
+    cut_ranges_lie_within();
+    steps_are_local();
+    let mut from = first;
+    let mut left = count;
+    while let Some(run) = lowest_cut(from, left, ranges) {
+        let at = (run.first - start) as usize;
+        if blocks.zero(alloc, at, run.blocks as usize).is_err() {
+            unreachable!("zeroing own memory takes none");
+        }
+        let past = run.first + u64::from(run.blocks);
+        left -= (past - from) as u32;
+        from = past;
     }
 }

@@ -32,3 +32,15 @@ pub record IsFilled (source : Source) (at from to least count : ℕ) (old new : 
   pub enough : (least ≤ count) ⊎ ((1 < least) × (count ≡ 0) × (new ≡ old))
   pub few : from + count ≤ to
   pub is : IsRewritten at count (λ i. source_block source (from + i)) old new
+
+-- Its blocks that aren't marked have this size in bytes.
+abbrev pub HasSize : Source → ℕ → Type 0
+HasSize (Data size payload) own = size ≡ own
+HasSize (Zeroes size) own = size ≡ own
+HasSize Marks own = Unit {0}
+
+-- They are zeroes.
+abbrev pub AreZeroes : Source → Type 0
+AreZeroes (Data size payload) = ⊥
+AreZeroes (Zeroes size) = Unit {0}
+AreZeroes Marks = ⊥

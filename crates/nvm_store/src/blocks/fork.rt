@@ -2,8 +2,8 @@ ghost use Rattle.std.specs.Prelude.{◌≡◌, ◌*◌, ◌<◌, IfOk, length, r
 ghost use Rattle.std.specs.Arc.{arc_value};
 ghost use Rattle.nvm_record.specs.declared.block.Block.{Block};
 
-use crate::blocks::leaf::Leaf;
 use crate::blocks::source::Source;
+use crate::blocks::stored_block::StoredBlock;
 use crate::blocks::tree::{Tree, fill_in, overwrite_in, set_in};
 use nvm_record::NoMemory;
 use std::alloc::Global;
@@ -48,9 +48,9 @@ impl<T: Tree, const SPAN: usize> Tree for Fork<T, SPAN> {
     ghost blocks = { λ f. f };
 
     #[inline(always)]
-    fn leaf(&self, at: usize) -> (&Leaf, usize) {
+    fn stretch(&self, at: usize) -> &[StoredBlock] {
         let kid = &self.kids[at / SPAN];
-        kid.leaf(at % SPAN)
+        kid.stretch(at % SPAN)
     }
 
     #[inline(always)]
@@ -59,8 +59,8 @@ impl<T: Tree, const SPAN: usize> Tree for Fork<T, SPAN> {
     }
 
     #[inline(always)]
-    fn overwrite(&mut self, at: usize, count: usize, size: usize, payload: &[u8]) -> bool {
-        overwrite_in(&mut self.kids[at / SPAN], at % SPAN, count, size, payload)
+    fn overwrite(&mut self, at: usize, bytes: &[u8]) -> bool {
+        overwrite_in(&mut self.kids[at / SPAN], at % SPAN, bytes)
     }
 
     fn fill(

@@ -1,18 +1,21 @@
-ghost use Rattle.std.specs.Prelude.{◌≡◌, ◌*◌, ◌<◌, ◌^◌, IfOk, OnErr, OnOk, drop, false, length, true};
-ghost use Rattle.nvm_record.specs.Step.{block_at};
-ghost use Rattle.nvm_store.specs.Inside.Rewrite.{IsRewritten, zero_block};
+ghost use Rattle.std.specs.Prelude.{◌≡◌, ◌<◌, IfOk, OnErr, OnOk, false, length, slice_set, true};
+ghost use Rattle.nvm_record.specs.declared.block.Block.TheVariants.{Bytes};
+ghost use Rattle.nvm_store.specs.Inside.Rewrite.{zero_block};
 ghost use Rattle.nvm_store.specs.Inside.Levels.{AreAll, blocks_of};
 ghost use Rattle.nvm_store.specs.Inside.Source.{HasBlocks, IsFilled, source_block};
 ghost use Rattle.nvm_store.specs.Inside.Tree.{IsStretch};
 
 use crate::blocks::fork::Fork;
-use crate::blocks::leaf::{LEAF, Leaf};
+use crate::blocks::leaf::Leaf;
 use crate::blocks::source::Source;
+use crate::blocks::stored_block::StoredBlock;
 use crate::blocks::tree::{Tree, fill_in, overwrite_in, set_in};
 use nvm_record::NoMemory;
 use std::alloc::Global;
 use std::sync::Arc;
 
+/// The most blocks of a leaf.
+pub const LEAF: usize = 8;
 /// How many children a fork over leaves, or over forks over leaves, has that isn't the top.
 const CHILDREN: usize = 16;
 /// The blocks of a fork over leaves that isn't the top.
@@ -21,17 +24,17 @@ const TWO: usize = 128;
 const THREE: usize = 2_048;
 /// How many children a fork over forks of [`THREE`] has that isn't the top.
 const WIDE: usize = 256;
-/// The blocks of a fork over forks of [`THREE`] that isn't the top.
+/// The blocks of such a fork.
 const FOUR: usize = 524_288;
-/// The most blocks of a tree of two levels, whose top has up to 65 children.
+/// The most blocks of a tree of two, three and four levels: the top has as many children as these take, 65 and 257 and 513.
 const TWO_LEVELS: usize = 512;
-/// The most blocks of a tree of three levels, whose top has up to 257 children.
+
 const THREE_LEVELS: usize = 32_768;
-/// The most blocks of a tree of four levels, whose top has up to 513 children.
+
 const FOUR_LEVELS: usize = 1_048_576;
 
-/// The tree of some blocks, with as many levels as their number calls for. The top has one child more than its blocks fill: 33 of four levels for 65,536
-/// blocks, and 513 of five for 2^28.
+/// The tree of some blocks, with as many levels as their number calls for. The top has as many children as it takes: 33 of four levels for 65,536 blocks,
+/// and 513 of five for 2^28.
 #[derive(Drop)]
 pub enum Levels {
     One(Arc<Leaf>),
@@ -79,18 +82,18 @@ impl Levels {
         }
     }
 
-    /// The leaf that has place `at`, and the block's place there.
+    /// The stored blocks from place `at` to the end of their leaf.
     #[inline(always)]
-    pub fn leaf(&self, at: usize) -> (&Leaf, usize)
+    pub fn stretch(&self, at: usize) -> &[StoredBlock]
         requires { at < length (blocks_of self.now) }
-        ensures { IsStretch (blocks_of self.now) at (drop result.1 result.0.now) }
+        ensures { IsStretch (blocks_of self.now) at result.now }
     {
         match self {
-            Levels::One(node) => node.leaf(at),
-            Levels::Two(node) => node.leaf(at),
-            Levels::Three(node) => node.leaf(at),
-            Levels::Four(node) => node.leaf(at),
-            Levels::Five(node) => node.leaf(at),
+            Levels::One(node) => node.stretch(at),
+            Levels::Two(node) => node.stretch(at),
+            Levels::Three(node) => node.stretch(at),
+            Levels::Four(node) => node.stretch(at),
+            Levels::Five(node) => node.stretch(at),
         }
     }
 
@@ -98,7 +101,7 @@ impl Levels {
     pub fn set(&mut self, alloc: Global, at: usize, source: &Source<'_>) -> Result<(), NoMemory>
         requires range { at < length (blocks_of self.old) }
         requires source { HasBlocks source.now 1 }
-        ensures ok { OnOk result (IsRewritten at 1 (source_block source.now) (blocks_of self.old) (blocks_of self.new)) }
+        ensures ok { OnOk result (blocks_of self.new ≡ slice_set (blocks_of self.old) at (source_block source.now 0)) }
         ensures err { OnErr result (blocks_of self.new ≡ blocks_of self.old) }
     {
         match self {
@@ -110,21 +113,20 @@ impl Levels {
         }
     }
 
-    /// Overwrites the bytes of the `count` blocks from place `at` with the data, and says whether it did. It does where they are in one leaf and have this
-    /// size, and nobody shares their bytes or a node on the way to them.
+    /// Puts these bytes in the place of those of the block at place `at`, and says whether it did. It does where nobody shares a node on its path or
+    /// its memory, and it has as many.
     #[inline(always)]
-    pub fn overwrite(&mut self, at: usize, count: usize, size: usize, payload: &[u8]) -> bool
-        requires range { at < length (blocks_of self.old) }
-        requires payload { length payload.now ≡ count * size }
-        ensures taken { result ≡ true → IsRewritten at count (block_at size payload.now) (blocks_of self.old) (blocks_of self.new) }
+    pub fn overwrite(&mut self, at: usize, bytes: &[u8]) -> bool
+        requires { at < length (blocks_of self.old) }
+        ensures taken { result ≡ true → blocks_of self.new ≡ slice_set (blocks_of self.old) at (Bytes bytes.now) }
         ensures left { result ≡ false → blocks_of self.new ≡ blocks_of self.old }
     {
         match self {
-            Levels::One(node) => overwrite_in(node, at, count, size, payload),
-            Levels::Two(node) => overwrite_in(node, at, count, size, payload),
-            Levels::Three(node) => overwrite_in(node, at, count, size, payload),
-            Levels::Four(node) => overwrite_in(node, at, count, size, payload),
-            Levels::Five(node) => overwrite_in(node, at, count, size, payload),
+            Levels::One(node) => overwrite_in(node, at, bytes),
+            Levels::Two(node) => overwrite_in(node, at, bytes),
+            Levels::Three(node) => overwrite_in(node, at, bytes),
+            Levels::Four(node) => overwrite_in(node, at, bytes),
+            Levels::Five(node) => overwrite_in(node, at, bytes),
         }
     }
 

@@ -1,5 +1,5 @@
 ghost use Rattle.std.specs.Prelude.{◌≡◌, ℕ, ◌+◌, ◌*◌, ◌-◌, ◌<◌, ◌≤◌, IfOk, OnErr, OnOk, false, length, replicate, true};
-ghost use Rattle.nvm_record.specs.declared.block.Block.TheVariants.{Uncorrectable};
+ghost use Rattle.nvm_record.specs.declared.block.Block.TheVariants.{Bytes, Uncorrectable};
 ghost use Rattle.nvm_record.specs.Lists.{IsAt};
 ghost use Rattle.nvm_record.specs.PayloadRef.{lent_bytes};
 ghost use Rattle.nvm_record.specs.Step.{block_at};
@@ -8,9 +8,9 @@ ghost use Rattle.nvm_store.specs.Inside.Source.{source_block, HasBlocks, IsFille
 
 mod reading;
 
-use crate::blocks::leaf::{LEAF, MOST_IN_PAGE};
-use crate::blocks::levels::Levels;
+use crate::blocks::levels::{LEAF, Levels};
 use crate::blocks::source::Source;
+use crate::blocks::stretches;
 use nvm_record::{NoMemory, PayloadRef};
 use std::alloc::Global;
 use std::fmt;
@@ -26,8 +26,6 @@ use std::marker::Model;
 pub struct SharedBlocks {
     levels: Levels,
     count: usize,
-    /// Whether whole leaves of small blocks become pages, since nobody else has their data.
-    pages: bool,
 }
 
 impl Model for SharedBlocks {
@@ -51,21 +49,12 @@ impl Debug for SharedBlocks {
 
 impl SharedBlocks {
     /// `count` blocks of `size` zero bytes. They share one leaf, so they take the memory of one path of the
-    /// tree. With `pages` their data isn't to be shared with the commands that bring it.
-    pub fn zeroed(
-        alloc: Global,
-        count: usize,
-        size: usize,
-        pages: bool,
-    ) -> Result<SharedBlocks, NoMemory>
+    /// tree.
+    pub fn zeroed(alloc: Global, count: usize, size: usize) -> Result<SharedBlocks, NoMemory>
         ensures { IfOk result (λ blocks. blocks ≡ replicate count (zero_block size)) }
     {
         let levels = Levels::zeroed(alloc, count, size)?;
-        Ok(SharedBlocks {
-            levels,
-            count,
-            pages,
-        })
+        Ok(SharedBlocks { levels, count })
     }
 
     /// How many blocks there are.
@@ -84,12 +73,11 @@ impl SharedBlocks {
         Ok(SharedBlocks {
             levels,
             count: self.count,
-            pages: self.pages,
         })
     }
 
-    /// The `count` blocks from place `at` take the data, in blocks of `size` bytes. They share it, if it is shared and they are no pages. Else those of one
-    /// leaf take it into their own memory if they can, and others take or share a copy.
+    /// The `count` blocks from place `at` take the data, in blocks of `size` bytes. They share it, if it is shared. Else one that is alone
+    /// takes it into its own memory if it can, and several share a copy.
     // A call, as a Read and a Compare of a tree are: with a way for each height of the tree they make who calls them so large that the compiler drops its `inline(always)`, without a message.
     #[inline(never)]
     pub fn write(
@@ -105,23 +93,13 @@ impl SharedBlocks {
         ensures ok { OnOk result (IsRewritten at count (block_at size (lent_bytes payload.entry)) self.old self.new) }
         ensures err { OnErr result (self.new ≡ self.old) }
     {
-        if count > 0
-            && (!payload.is_shared() || self.has_pages(size))
-            && self.overwrite(at, count, size, payload.as_slice())
-        {
+        if count == 1 && !payload.is_shared() && self.overwrite(at, payload.as_slice()) {
             return Ok(());
         }
         self.put_data(alloc, at, count, size, payload)
     }
 
-    /// Whether whole leaves of blocks of `size` bytes become pages.
-    #[inline(always)]
-    fn has_pages(&self, size: usize) -> bool {
-        self.pages && size <= MOST_IN_PAGE
-    }
-
-    /// The `count` blocks from place `at` take the data. Where whole leaves become pages, one block, and each of whole leaves, takes a copy. Else they share
-    /// the data, or a copy where nobody shares it. It is apart from `write`, which is small where it is called.
+    /// The `count` blocks from place `at` take a share of the data, or of a copy.
     #[inline(never)]
     fn put_data(
         &mut self,
@@ -138,10 +116,6 @@ impl SharedBlocks {
     {
         if count == 1 {
             return self.set(alloc, at, &Source::Data { size, payload });
-        }
-        if self.has_pages(size) && at % LEAF == 0 && count % LEAF == 0 {
-            let payload = PayloadRef::of(payload.as_slice());
-            return self.fill(alloc, at, count, &Source::Data { size, payload });
         }
         let copy = if payload.is_shared() {
             None
@@ -196,27 +170,25 @@ impl SharedBlocks {
             return 0;
         };
         let stretch = self.stretch(from, most);
-        if stretch.leaf.are_kept_as_zero(stretch.at, stretch.len, size) {
-            stretch.len
+        if stretches::are_kept_as_zero(stretch, size) {
+            stretch.len()
         } else {
             0
         }
     }
 
-    /// Overwrites the bytes of the `count` blocks from place `at` with the data, and says whether it did. It does where they are in one leaf and have this
-    /// size, and nobody shares their bytes or a node on the way to them.
+    /// Puts these bytes in the place of those of the block at place `at`, and says whether it did. It does where nobody shares its memory or its way
+    /// in the tree, and it has as many.
     #[inline(always)]
-    fn overwrite(&mut self, at: usize, count: usize, size: usize, payload: &[u8]) -> bool
-        requires some { 0 < count }
-        requires range { at + count ≤ length self.old }
-        requires payload { length payload.now ≡ count * size }
-        ensures taken { result ≡ true → IsRewritten at count (block_at size payload.now) self.old self.new }
+    fn overwrite(&mut self, at: usize, bytes: &[u8]) -> bool
+        requires { at < length self.old }
+        ensures taken { result ≡ true → IsRewritten at 1 (λ _. Bytes bytes.now) self.old self.new }
         ensures left { result ≡ false → self.new ≡ self.old }
     {
-        self.levels.overwrite(at, count, size, payload)
+        self.levels.overwrite(at, bytes)
     }
 
-    /// Puts the source's first block at place `at`, as `fill` would, which is less at once.
+    /// Puts the source's first block at place `at`.
     fn set(&mut self, alloc: Global, at: usize, source: &Source<'_>) -> Result<(), NoMemory>
         requires range { at < length self.old }
         requires source { HasBlocks source.now 1 }
@@ -250,7 +222,7 @@ impl SharedBlocks {
 
     /// The `count` blocks from place `at` become the source's.
     ///
-    /// Blocks of one leaf are put in place. Those of several leaves are put into a shared
+    /// One block is put in place, and so are several of one leaf. Those of several leaves are put into a shared
     /// copy, which copies each node of their ways once, and takes this one's place where nothing was refused.
     fn fill(
         &mut self,
@@ -264,6 +236,9 @@ impl SharedBlocks {
         ensures ok { OnOk result (IsRewritten at count (source_block source.now) self.old self.new) }
         ensures err { OnErr result (self.new ≡ self.old) }
     {
+        if count == 1 {
+            return self.set(alloc, at, source);
+        }
         if count > 0 && count <= LEAF - at % LEAF {
             let done = self.fill_stretch(alloc, at, 0, count, count, source)?;
             if done > 0 {

@@ -221,7 +221,7 @@ pub fn behind_bytes<'a>(bytes: &[u8], payload: &'a [u8]) -> Option<&'a [u8]>
 }
 
 /// The data after `size` zero bytes, or `None` where it doesn't begin with them.
-pub fn behind_zeroes(size: usize, payload: &[u8]) -> Option<&[u8]>
+fn behind_zeroes(size: usize, payload: &[u8]) -> Option<&[u8]>
     ensures { MatchOption result
         ((rest : List ℕ) → replicate size 0 ++ rest ≡ payload.now → ⊥)
         (λ rest. replicate size 0 ++ rest.now ≡ payload.now) }
@@ -231,6 +231,16 @@ pub fn behind_zeroes(size: usize, payload: &[u8]) -> Option<&[u8]>
     }
     let (front, rest) = payload.split_at(size);
     if are_zero(front) { Some(rest) } else { None }
+}
+
+/// Whether the data is exactly `len` zero bytes.
+pub fn is_zeroes(len: usize, payload: &[u8]) -> bool
+    ensures { result ≡ bytes_eq (replicate len 0) payload.now }
+{
+    if payload.len() != len {
+        return false;
+    }
+    are_zero(payload)
 }
 
 /// Whether all bytes are zero: the first is, and each is as the one before it.

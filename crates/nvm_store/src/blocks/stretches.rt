@@ -1,6 +1,5 @@
-ghost use Rattle.std.specs.Prelude.{◌≡◌, ◌+◌, ◌++◌, ◌≤◌, ℕ, All, IfNone, IfSome, List, MatchOption, OnOk, false, length, take, true};
+ghost use Rattle.std.specs.Prelude.{◌≡◌, ◌+◌, ◌++◌, ◌≤◌, ℕ, All, List, MatchOption, OnOk, length, take};
 ghost use Rattle.std.specs.Bool.{OnTrue};
-ghost use Rattle.std.specs.Str.{bytes_eq};
 ghost use Rattle.nvm_record.specs.Medium as medium;
 ghost use Rattle.nvm_store.specs.Inside.Rewrite.{zero_block};
 
@@ -65,41 +64,4 @@ pub fn behind<'a>(blocks: &[StoredBlock], payload: &'a [u8]) -> Option<&'a [u8]>
         rest = block.behind(rest)?;
     }
     Some(rest)
-}
-
-/// Whether one of the blocks is marked. Else their bytes are in the buffer, which has room for exactly these. One block is looked at once.
-#[inline(always)]
-pub fn read_into(blocks: &[StoredBlock], buffer: &mut [u8]) -> bool
-    requires room { medium.has_mark blocks.now ≡ false → length buffer.old ≡ length (medium.joined blocks.now) }
-    ensures marked { result ≡ medium.has_mark blocks.now }
-    ensures read { result ≡ false → buffer.new ≡ medium.joined blocks.now }
-    ensures left { result ≡ true → buffer.new ≡ buffer.old }
-{
-    if blocks.len() == 1 {
-        return blocks[0].read_into(buffer);
-    }
-    if has_mark(blocks) {
-        return true;
-    }
-    copy_to(blocks, buffer, 0);
-    false
-}
-
-/// Whether the bytes of the blocks are exactly the data. `None` if one of them is marked. One block is looked at once.
-#[inline(always)]
-pub fn compare(blocks: &[StoredBlock], payload: &[u8]) -> Option<bool>
-    ensures marked { IfNone result (medium.has_mark blocks.now ≡ true) }
-    ensures same { IfSome result (λ same. (medium.has_mark blocks.now ≡ false)
-        × (same ≡ bytes_eq (medium.joined blocks.now) payload.now)) }
-{
-    if blocks.len() == 1 {
-        return blocks[0].compare(payload);
-    }
-    if has_mark(blocks) {
-        return None;
-    }
-    match behind(blocks, payload) {
-        Some(rest) => Some(rest.is_empty()),
-        None => Some(false),
-    }
 }

@@ -1,13 +1,12 @@
-ghost use Rattle.std.specs.Prelude.{◌≡◌, ◌*◌, ◌<◌, List, drop, length, IfOk, OnErr, OnOk, false, true};
+ghost use Rattle.std.specs.Prelude.{◌≡◌, ◌<◌, List, length, IfOk, OnOk, OnErr, false, slice_set, true};
 ghost use Rattle.std.specs.Arc.{arc_value};
 ghost use Rattle.nvm_record.specs.declared.block.Block.{Block};
-ghost use Rattle.nvm_record.specs.Step.{block_at};
-ghost use Rattle.nvm_store.specs.Inside.Rewrite.{IsRewritten};
+ghost use Rattle.nvm_record.specs.declared.block.Block.TheVariants.{Bytes};
 ghost use Rattle.nvm_store.specs.Inside.Source.{HasBlocks, IsFilled, source_block};
 ghost use Rattle.nvm_store.specs.Inside.Tree.{IsStretch};
 
-use crate::blocks::leaf::Leaf;
 use crate::blocks::source::Source;
+use crate::blocks::stored_block::StoredBlock;
 use nvm_record::NoMemory;
 use std::alloc::Global;
 use std::sync::Arc;
@@ -17,25 +16,24 @@ pub trait Tree: Drop {
     /// Its blocks.
     ghost blocks: { Self → List Block };
 
-    /// The leaf that has place `at`, and the block's place there.
-    fn leaf(&self, at: usize) -> (&Leaf, usize)
+    /// The stored blocks from place `at` to the end of their leaf.
+    fn stretch(&self, at: usize) -> &[StoredBlock]
         requires { at < length (blocks self.now) }
-        ensures { IsStretch (blocks self.now) at (drop result.1 result.0.now) };
+        ensures { IsStretch (blocks self.now) at result.now };
 
     /// Puts the source's first block at place `at`, in place where nobody shares a node on its path. A node that somebody
     /// shares is copied first. Where memory is refused, all blocks are as they were.
     fn set(&mut self, alloc: Global, at: usize, source: &Source<'_>) -> Result<(), NoMemory>
         requires range { at < length (blocks self.old) }
         requires source { HasBlocks source.now 1 }
-        ensures ok { OnOk result (IsRewritten at 1 (source_block source.now) (blocks self.old) (blocks self.new)) }
+        ensures ok { OnOk result (blocks self.new ≡ slice_set (blocks self.old) at (source_block source.now 0)) }
         ensures err { OnErr result (blocks self.new ≡ blocks self.old) };
 
-    /// Overwrites the bytes of the `count` blocks from place `at` with the data, and says whether it did. It does where they are in one leaf and have this
-    /// size, and nobody shares their bytes or a node on the way to them.
-    fn overwrite(&mut self, at: usize, count: usize, size: usize, payload: &[u8]) -> bool
-        requires range { at < length (blocks self.old) }
-        requires payload { length payload.now ≡ count * size }
-        ensures taken { result ≡ true → IsRewritten at count (block_at size payload.now) (blocks self.old) (blocks self.new) }
+    /// Puts these bytes in the place of those of the block at place `at`, and says whether it did. It does where nobody shares a node on its path or
+    /// its memory, and it has as many.
+    fn overwrite(&mut self, at: usize, bytes: &[u8]) -> bool
+        requires { at < length (blocks self.old) }
+        ensures taken { result ≡ true → blocks self.new ≡ slice_set (blocks self.old) at (Bytes bytes.now) }
         ensures left { result ≡ false → blocks self.new ≡ blocks self.old };
 
     /// Puts the source's blocks from place `from` up to place `to` at the places from `at` on, as far as
@@ -92,7 +90,8 @@ pub fn set_in<T: Tree>(
 ) -> Result<(), NoMemory>
     requires range { at < length (T.blocks (arc_value node.old)) }
     requires source { HasBlocks source.now 1 }
-    ensures ok { OnOk result (IsRewritten at 1 (source_block source.now) (T.blocks (arc_value node.old)) (T.blocks (arc_value node.new))) }
+    ensures ok { OnOk result
+        (T.blocks (arc_value node.new) ≡ slice_set (T.blocks (arc_value node.old)) at (source_block source.now 0)) }
     ensures err { OnErr result (T.blocks (arc_value node.new) ≡ T.blocks (arc_value node.old)) }
 {
     match Arc::get_mut(node) {
@@ -106,23 +105,16 @@ pub fn set_in<T: Tree>(
     }
 }
 
-/// Overwrites blocks of the node from place `at` on, and says whether it did: not where somebody shares the node.
+/// Puts these bytes in the place of those of the node's block at place `at`, where nobody shares the node either.
 #[inline(always)]
-pub fn overwrite_in<T: Tree>(
-    node: &mut Arc<T>,
-    at: usize,
-    count: usize,
-    size: usize,
-    payload: &[u8],
-) -> bool
-    requires range { at < length (T.blocks (arc_value node.old)) }
-    requires payload { length payload.now ≡ count * size }
-    ensures taken { result ≡ true → IsRewritten at count (block_at size payload.now)
-        (T.blocks (arc_value node.old)) (T.blocks (arc_value node.new)) }
+pub fn overwrite_in<T: Tree>(node: &mut Arc<T>, at: usize, bytes: &[u8]) -> bool
+    requires { at < length (T.blocks (arc_value node.old)) }
+    ensures taken { result ≡ true
+        → T.blocks (arc_value node.new) ≡ slice_set (T.blocks (arc_value node.old)) at (Bytes bytes.now) }
     ensures left { result ≡ false → T.blocks (arc_value node.new) ≡ T.blocks (arc_value node.old) }
 {
     match Arc::get_mut(node) {
-        Some(own) => own.overwrite(at, count, size, payload),
+        Some(own) => own.overwrite(at, bytes),
         None => false,
     }
 }

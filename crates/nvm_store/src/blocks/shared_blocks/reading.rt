@@ -3,8 +3,9 @@ ghost use Rattle.std.specs.Str.{bytes_eq};
 ghost use Rattle.nvm_record.specs.Medium as medium;
 ghost use Rattle.nvm_store.specs.Inside.Rewrite.{stretch_of};
 
-use crate::blocks::leaf::Leaf;
 use crate::blocks::shared_blocks::SharedBlocks;
+use crate::blocks::stored_block::StoredBlock;
+use crate::blocks::stretches;
 use nvm_record::NoMemory;
 
 /// What the blocks of a tree hold. None of these calls changes them.
@@ -20,17 +21,17 @@ impl SharedBlocks {
         let mut left = count;
         while left > 0 {
             let stretch = self.stretch(from, left);
-            if stretch.leaf.has_mark(stretch.at, stretch.len) {
+            if stretches::has_mark(stretch) {
                 return true;
             }
-            from += stretch.len;
-            left -= stretch.len;
+            from += stretch.len();
+            left -= stretch.len();
         }
         false
     }
 
     /// Whether the bytes of the `count` blocks from place `at`, one block after the other, are exactly the data. `None` if one of them is marked.
-    /// It takes no memory. What lies in one leaf is looked up once.
+    /// It takes no memory. The way to one block is gone once.
     #[inline(never)]
     pub fn compare(&self, at: usize, count: usize, payload: &[u8]) -> Option<bool>
         requires { at + count ≤ length self.now }
@@ -38,16 +39,24 @@ impl SharedBlocks {
         ensures same { IfSome result (λ same. (medium.has_mark (stretch_of at count self.now) ≡ false)
             × (same ≡ bytes_eq (medium.joined (stretch_of at count self.now)) payload.now)) }
     {
-        if count > 0 {
-            let stretch = self.stretch(at, count);
-            if stretch.len == count {
-                return stretch.leaf.compare(stretch.at, count, payload);
-            }
+        if count == 1 {
+            return self.compare_one(at, payload);
         }
         if self.has_mark(at, count) {
             return None;
         }
         Some(self.is_equal(at, count, payload))
+    }
+
+    /// Whether the bytes of the block at place `at` are exactly the data. `None` if it is marked.
+    #[inline(always)]
+    fn compare_one(&self, at: usize, payload: &[u8]) -> Option<bool>
+        requires { at + 1 ≤ length self.now }
+        ensures marked { IfNone result (medium.has_mark (stretch_of at 1 self.now) ≡ true) }
+        ensures same { IfSome result (λ same. (medium.has_mark (stretch_of at 1 self.now) ≡ false)
+            × (same ≡ bytes_eq (medium.joined (stretch_of at 1 self.now)) payload.now)) }
+    {
+        self.stretch(at, 1)[0].compare(payload)
     }
 
     /// Whether the bytes of the `count` blocks from place `at`, one block after the other, are exactly the
@@ -64,12 +73,12 @@ impl SharedBlocks {
         let mut rest = payload;
         while left > 0 {
             let stretch = self.stretch(from, left);
-            let Some(behind) = stretch.leaf.behind(stretch.at, stretch.len, rest) else {
+            let Some(behind) = stretches::behind(stretch, rest) else {
                 return false;
             };
             rest = behind;
-            from += stretch.len;
-            left -= stretch.len;
+            from += stretch.len();
+            left -= stretch.len();
         }
         rest.is_empty()
     }
@@ -87,15 +96,15 @@ impl SharedBlocks {
         let mut left = count;
         while left > 0 {
             let stretch = self.stretch(from, left);
-            stretch.leaf.push_bytes(stretch.at, stretch.len, bytes)?;
-            from += stretch.len;
-            left -= stretch.len;
+            stretches::push_bytes(stretch, bytes)?;
+            from += stretch.len();
+            left -= stretch.len();
         }
         Ok(())
     }
 
     /// Whether one of the `count` blocks from place `at` is marked. Else their bytes, one block after the other, are in the buffer, which has room
-    /// for exactly these. What lies in one leaf is looked up once.
+    /// for exactly these. The way to one block is gone once.
     #[inline(never)]
     pub fn read_into(&self, at: usize, count: usize, buffer: &mut [u8]) -> bool
         requires range { at + count ≤ length self.now }
@@ -105,17 +114,27 @@ impl SharedBlocks {
         ensures read { result ≡ false → buffer.new ≡ medium.joined (stretch_of at count self.now) }
         ensures left { result ≡ true → buffer.new ≡ buffer.old }
     {
-        if count > 0 {
-            let stretch = self.stretch(at, count);
-            if stretch.len == count {
-                return stretch.leaf.read_into(stretch.at, count, buffer);
-            }
+        if count == 1 {
+            return self.read_one(at, buffer);
         }
         if self.has_mark(at, count) {
             return true;
         }
         self.copy_to(at, count, buffer);
         false
+    }
+
+    /// Whether the block at place `at` is marked. Else its bytes are in the buffer, which has room for exactly these.
+    #[inline(always)]
+    fn read_one(&self, at: usize, buffer: &mut [u8]) -> bool
+        requires range { at + 1 ≤ length self.now }
+        requires room { medium.has_mark (stretch_of at 1 self.now) ≡ false
+            → length buffer.old ≡ length (medium.joined (stretch_of at 1 self.now)) }
+        ensures marked { result ≡ medium.has_mark (stretch_of at 1 self.now) }
+        ensures read { result ≡ false → buffer.new ≡ medium.joined (stretch_of at 1 self.now) }
+        ensures left { result ≡ true → buffer.new ≡ buffer.old }
+    {
+        self.stretch(at, 1)[0].read_into(buffer)
     }
 
     /// Puts the bytes of the `count` blocks from place `at` into the buffer, which has room for exactly these. A marked block has no bytes.
@@ -131,33 +150,23 @@ impl SharedBlocks {
         let mut to = 0;
         while left > 0 {
             let stretch = self.stretch(from, left);
-            to = stretch.leaf.copy_to(stretch.at, stretch.len, buffer, to);
-            from += stretch.len;
-            left -= stretch.len;
+            to = stretches::copy_to(stretch, buffer, to);
+            from += stretch.len();
+            left -= stretch.len();
         }
     }
 
-    /// The blocks from place `from`, as far as they are in one leaf, and at most `most`.
+    /// The stored blocks from place `from`, as far as they are in one leaf, and at most `most`.
     #[inline(always)]
-    pub(super) fn stretch(&self, from: usize, most: usize) -> Stretch<'_>
+    pub(super) fn stretch(&self, from: usize, most: usize) -> &[StoredBlock]
         requires some { 0 < most }
         requires range { from + most ≤ length self.now }
-        ensures some { 0 < result.len }
-        ensures few { result.len ≤ most }
-        ensures within { result.at + result.len ≤ length result.leaf.now }
-        ensures is { stretch_of from result.len self.now ≡ stretch_of result.at result.len result.leaf.now }
+        ensures some { 0 < length result.now }
+        ensures few { length result.now ≤ most }
+        ensures is { stretch_of from (length result.now) self.now ≡ result.now }
     {
-        let (leaf, at) = self.levels.leaf(from);
-        let len = (leaf.len() - at).min(most);
-        Stretch { leaf, at, len }
+        let stretch = self.levels.stretch(from);
+        let len = stretch.len().min(most);
+        &stretch[..len]
     }
-}
-
-/// Some blocks of a leaf.
-#[derive(Clone, Copy)]
-pub(super) struct Stretch<'a> {
-    pub(super) leaf: &'a Leaf,
-    /// The first one's place there.
-    pub(super) at: usize,
-    pub(super) len: usize,
 }

@@ -7,7 +7,7 @@ use Rattle.nvm_store.proofs.unit_blocks.UnitBlocks.deallocate.Goals as goal
 pub overflow_add-past : goal.overflow_add-past
 overflow_add-past c =
     let within = rw (← c.self.view_is) at c.requires in
-    let low = c.self.invariant.low in
+    let low = c.self.invariant.sound.low in
     let run = c.in-Some.run' in
     let end : run.first + run.blocks ≤ c.args.first + c.args.blocks = (rw c.in-Some.is at c.lowest_cut.ensures.some).2 in
     omega (arith, within.below, low, end, c.from.ensures)
@@ -38,3 +38,8 @@ returns-then-is_none-clause-step c =
     ∙ sym (swept_more law size first first c.args.blocks rs run m lba (omega arith) is)
     ∙ step swept' (λ j b here. swept_none size rs first m (c.args.self.now.first + j) ∙ held j b here) i block at)
     c.zero.ensures.step
+
+pub returns-then-is_own-clause-step : goal.returns-then-is_own-clause-step
+returns-then-is_own-clause-step c m held i block there =
+    let held' = rw (← c.self.view_is) at held in
+    rw (← c.self.view_is, ← c.self.invariant.same) (c.clear_runs.ensures.step m held' i block there)

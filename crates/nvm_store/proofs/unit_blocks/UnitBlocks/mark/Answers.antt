@@ -1,4 +1,4 @@
-use Rattle.std.proofs.Common.{◌≡◌, ◌+◌, ◌-◌, refl, arith}
+use Rattle.std.proofs.Common.{◌≡◌, ◌+◌, ◌-◌, refl, ◌∙◌, arith}
 use Rattle.std.proofs.lemmas.Result.{on_ok_weaker}
 use Rattle.nvm_record.specs.declared.block.Block.TheVariants.{Uncorrectable}
 use Rattle.nvm_store.specs.Operation.{uncorrectable_operation}
@@ -8,8 +8,12 @@ use Rattle.nvm_store.proofs.unit_blocks.UnitBlocks.mark.Goals as goal
 pub invariant_of-self : goal.invariant_of-self
 invariant_of-self c =
     let at = c.args.first - c.self.inside.first in
-    sound_after c.mark.result c.self.inside.first c.self.inside.size at c.args.blocks (λ _. Uncorrectable) c.self.inside.blocks c.mark.new.self
-    c.mark.ensures.ok c.mark.ensures.err c.self.invariant (λ i lt. tt)
+    record {
+      sound =
+          sound_after c.mark.result c.self.inside.first c.self.inside.size at c.args.blocks (λ _. Uncorrectable) c.self.inside.blocks.list c.mark.new.self.list
+          c.mark.ensures.ok c.mark.ensures.err c.self.invariant.sound (λ i lt. tt);
+      same = c.mark.ensures.size ∙ c.self.invariant.same;
+    }
 
 pub returns-clause-step : goal.returns-clause-step
 returns-clause-step c =
@@ -20,5 +24,5 @@ returns-clause-step c =
     (λ is m held.
     let held' = rw (← c.self.view_is) at held in
     held-rewritten c.steps_are_local.ensures.outside m c.self.inside.first c.self.inside.size at (uncorrectable_operation c.args.first c.args.blocks)
-    (λ _. Uncorrectable) c.self.inside.blocks c.mark.new.self (λ lba. refl) held' place is (λ i lt. refl))
+    (λ _. Uncorrectable) c.self.inside.blocks.list c.mark.new.self.list (λ lba. refl) held' place is (λ i lt. refl))
     c.mark.ensures.ok

@@ -6,16 +6,19 @@ use Rattle.nvm_store.proofs.unit_blocks.UnitBlocks.own.Goals as goal
 
 pub returns-clause-zeroes : goal.returns-clause-zeroes
 returns-clause-zeroes c =
-    rw (c.in_ok-blocks.ensures, c.bytes.ensures.value) (zeroes_held c.args.blocks c.args.first c.args.size)
+    rw (c.in_ok-blocks.ensures.list, c.bytes.ensures.value) (zeroes_held c.args.blocks c.args.first c.args.size)
 
 pub invariant_of-result : goal.invariant_of-result
 invariant_of-result c =
     let size = c.bytes.result in
-    let len : length c.in_ok-blocks.blocks ≡ c.args.blocks = ap length c.in_ok-blocks.ensures ∙ length-replicate c.args.blocks (zero_block size) in
+    let len : length c.in_ok-blocks.blocks.list ≡ c.args.blocks = ap length c.in_ok-blocks.ensures.list ∙ length-replicate c.args.blocks (zero_block size) in
     let few : c.args.blocks < 2 ^ 32 = search in
     record {
-      some = rw len c.requires.some;
-      low = rw len c.requires.low;
-      few = rw len few;
-      sized = rw (c.in_ok-blocks.ensures, c.bytes.ensures.value) (zeroes_sized c.args.blocks c.args.size);
+      sound = record {
+        some = rw len c.requires.some;
+        low = rw len c.requires.low;
+        few = rw len few;
+        sized = rw (c.in_ok-blocks.ensures.list, c.bytes.ensures.value) (zeroes_sized c.args.blocks c.args.size);
+      };
+      same = c.in_ok-blocks.ensures.size ∙ c.bytes.ensures.value;
     }

@@ -1,4 +1,4 @@
-use Rattle.std.proofs.Common.{◌≡◌, ℕ, ◌+◌, ◌-◌, refl, ap, arith}
+use Rattle.std.proofs.Common.{◌≡◌, ℕ, ◌+◌, ◌-◌, refl, ap, ◌∙◌, arith}
 use Rattle.std.proofs.lemmas.Result.{on_ok_weaker}
 use Rattle.nvm_record.specs.PayloadRef.{lent_bytes}
 use Rattle.nvm_record.specs.Step.{block_at}
@@ -9,8 +9,13 @@ use Rattle.nvm_store.proofs.unit_blocks.UnitBlocks.write.Goals as goal
 pub invariant_of-self : goal.invariant_of-self
 invariant_of-self c =
     let at = c.args.first - c.self.inside.first in
-    sound_after c.write.result c.self.inside.first c.self.inside.size at c.args.blocks (block_at c.bytes-size.result (lent_bytes c.args.payload)) c.self.inside.blocks c.write.new.self
-    c.write.ensures.ok c.write.ensures.err c.self.invariant (λ i lt. rw c.bytes-size.ensures.value (data_sized c.self.inside.size c.args.blocks (lent_bytes c.args.payload) i (rw (← c.self.view_is) at c.requires.payload) lt))
+    record {
+      sound =
+          sound_after c.write.result c.self.inside.first c.self.inside.size at c.args.blocks (block_at c.self.inside.blocks.size (lent_bytes c.args.payload)) c.self.inside.blocks.list c.write.new.self.list
+          c.write.ensures.ok c.write.ensures.err c.self.invariant.sound
+          (λ i lt. rw c.self.invariant.same (data_sized c.self.inside.size c.args.blocks (lent_bytes c.args.payload) i (rw (← c.self.view_is) at c.requires.payload) lt));
+      same = c.write.ensures.size ∙ c.self.invariant.same;
+    }
 
 pub returns-clause-step : goal.returns-clause-step
 returns-clause-step c =
@@ -22,5 +27,5 @@ returns-clause-step c =
     let held' = rw (← c.self.view_is) at held in
     rw (← c.self.view_is)
     (held-rewritten c.steps_are_local.ensures.outside m c.self.inside.first c.self.inside.size at (write_operation c.args.first c.args.blocks (lent_bytes c.args.payload))
-    (block_at c.bytes-size.result (lent_bytes c.args.payload)) c.self.inside.blocks c.write.new.self (λ lba. refl) held' place is (λ i lt. ap (λ (n : ℕ). block_at n (lent_bytes c.args.payload) i) c.bytes-size.ensures.value)))
+    (block_at c.self.inside.blocks.size (lent_bytes c.args.payload)) c.self.inside.blocks.list c.write.new.self.list (λ lba. refl) held' place is (λ i lt. ap (λ (n : ℕ). block_at n (lent_bytes c.args.payload) i) c.self.invariant.same)))
     c.write.ensures.ok

@@ -9,8 +9,13 @@ use Rattle.nvm_store.proofs.unit_blocks.UnitBlocks.zero.Goals as goal
 pub invariant_of-self : goal.invariant_of-self
 invariant_of-self c =
     let at = c.args.first - c.self.inside.first in
-    sound_after c.zero.result c.self.inside.first c.self.inside.size at c.args.blocks (λ _. zero_block c.bytes-size.result) c.self.inside.blocks c.zero.new.self
-    c.zero.ensures.ok c.zero.ensures.err c.self.invariant (λ i lt. length-replicate c.bytes-size.result 0 ∙ c.bytes-size.ensures.value)
+    record {
+      sound =
+          sound_after c.zero.result c.self.inside.first c.self.inside.size at c.args.blocks (λ _. zero_block c.self.inside.blocks.size) c.self.inside.blocks.list c.zero.new.self.list
+          c.zero.ensures.ok c.zero.ensures.err c.self.invariant.sound
+          (λ i lt. length-replicate c.self.inside.blocks.size 0 ∙ c.self.invariant.same);
+      same = c.zero.ensures.size ∙ c.self.invariant.same;
+    }
 
 pub returns-clause-step : goal.returns-clause-step
 returns-clause-step c =
@@ -22,5 +27,5 @@ returns-clause-step c =
     let held' = rw (← c.self.view_is) at held in
     rw (← c.self.view_is)
     (held-rewritten c.steps_are_local.ensures.outside m c.self.inside.first c.self.inside.size at (zeroes_operation c.args.first c.args.blocks)
-    (λ _. zero_block c.bytes-size.result) c.self.inside.blocks c.zero.new.self (λ lba. refl) held' place is (λ i lt. ap zero_block c.bytes-size.ensures.value)))
+    (λ _. zero_block c.self.inside.blocks.size) c.self.inside.blocks.list c.zero.new.self.list (λ lba. refl) held' place is (λ i lt. ap zero_block c.self.invariant.same)))
     c.zero.ensures.ok

@@ -7,9 +7,8 @@ use Rattle.nvm_store.proofs.blocks.shared_blocks.SharedBlocks.copy_to.Goals as g
 
 pub copy_to-to-requires : goal.copy_to-to-requires
 copy_to-to-requires c =
-    let part = c.stretch-stretch.result in
-    let n = part.len in
-    let stretch = stretch_of part.at n part.leaf.now in
+    let stretch = c.stretch-stretch.result.now in
+    let n = length stretch in
     let rest = stretch_of (c.loop-left.from + n) (c.loop-left.left - n) c.args.self.now in
     let parts = joined_stretches c.args.self.now stretch c.loop-left.from c.loop-left.left n c.stretch-stretch.ensures.is c.stretch-stretch.ensures.few in
     let lengths = ap length parts ∙ length-append (joined stretch) (joined rest) in
@@ -17,9 +16,8 @@ copy_to-to-requires c =
 
 pub loop-left-preserved : goal.loop-left-preserved
 loop-left-preserved c =
-    let part = c.stretch-stretch.result in
-    let n = part.len in
-    let stretch = stretch_of part.at n part.leaf.now in
+    let stretch = c.stretch-stretch.result.now in
+    let n = length stretch in
     let rest = stretch_of (c.loop-left.from + n) (c.loop-left.left - n) c.args.self.now in
     let old = c.loop-left.buffer in
     let to = c.loop-left.to in

@@ -1,4 +1,4 @@
-use Rattle.std.proofs.Common.{◌≡◌, ◌+◌, ◌-◌, ◌++◌, [], List, ℕ, sym, ap, ◌∙◌, arith, refl}
+use Rattle.std.proofs.Common.{◌≡◌, ◌+◌, ◌-◌, ◌++◌, [], List, ℕ, length, sym, ap, ◌∙◌, arith, refl}
 use Rattle.std.proofs.lemmas.List.{append_cancel_left}
 use Rattle.std.proofs.lemmas.Slice.Eq.{bytes_eq-Decides}
 use Rattle.std.specs.Bool.{one_answer}
@@ -11,9 +11,8 @@ use Rattle.nvm_store.proofs.blocks.shared_blocks.SharedBlocks.is_equal.Goals as 
 
 pub returns-in_default : goal.returns-in_default
 returns-in_default c =
-    let part = c.stretch-stretch.result in
-    let n = part.len in
-    let stretch = stretch_of part.at n part.leaf.now in
+    let stretch = c.stretch-stretch.result.now in
+    let n = length stretch in
     let rest = stretch_of (c.loop-left.from + n) (c.loop-left.left - n) c.args.self.now in
     let next = next_stretch c.args.self.now stretch c.loop-left.from c.loop-left.left n c.stretch-stretch.ensures.is c.stretch-stretch.ensures.few in
     tells_other (joined (stretch_of c.args.at c.args.count c.args.self.now)) c.args.payload.now
@@ -21,9 +20,8 @@ returns-in_default c =
 
 pub loop-left-preserved : goal.loop-left-preserved
 loop-left-preserved c =
-    let part = c.stretch-stretch.result in
-    let n = part.len in
-    let stretch = stretch_of part.at n part.leaf.now in
+    let stretch = c.stretch-stretch.result.now in
+    let n = length stretch in
     let rest = stretch_of (c.loop-left.from + n) (c.loop-left.left - n) c.args.self.now in
     let next = next_stretch c.args.self.now stretch c.loop-left.from c.loop-left.left n c.stretch-stretch.ensures.is c.stretch-stretch.ensures.few in
     let cut = ap joined next ∙ joined-append stretch rest in

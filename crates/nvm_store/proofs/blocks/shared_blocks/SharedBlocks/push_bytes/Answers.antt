@@ -1,4 +1,4 @@
-use Rattle.std.proofs.Common.{◌+◌, ◌-◌, ◌++◌, List, ℕ, append_assoc, sym, ap, ◌∙◌, arith}
+use Rattle.std.proofs.Common.{◌+◌, ◌-◌, ◌++◌, List, ℕ, append_assoc, length, sym, ap, ◌∙◌, arith}
 use Rattle.nvm_record.specs.Medium.{joined}
 use Rattle.nvm_store.specs.Inside.Rewrite.{stretch_of}
 use Rattle.nvm_store.proofs.Stretches.{joined_stretches}
@@ -6,9 +6,8 @@ use Rattle.nvm_store.proofs.blocks.shared_blocks.SharedBlocks.push_bytes.Goals a
 
 pub loop-left-preserved : goal.loop-left-preserved
 loop-left-preserved c =
-    let part = c.stretch-stretch.result in
-    let n = part.len in
-    let stretch = stretch_of part.at n part.leaf.now in
+    let stretch = c.stretch-stretch.result.now in
+    let n = length stretch in
     let rest = stretch_of (c.loop-left.from + n) (c.loop-left.left - n) c.args.self.now in
     let bytes = c.loop-left.bytes.items in
     let parts = joined_stretches c.args.self.now stretch c.loop-left.from c.loop-left.left n c.stretch-stretch.ensures.is c.stretch-stretch.ensures.few in

@@ -1,0 +1,19 @@
+use Rattle.std.proofs.Common.{◌+◌, ◌/◌, ◌%◌, ◌≤◌, ◌<◌, arith}
+use Rattle.nvm_store.proofs.Gathering.{all_there}
+use Rattle.nvm_store.proofs.GatheredStretches.{counted_stretch, length_paged, place_of_page}
+use Rattle.nvm_store.proofs.blocks.paged_blocks.PagedBlocks.stretch.Goals as goal
+
+pub returns-clause-is : goal.returns-clause-is
+returns-clause-is c =
+    let count = c.self.inside.count in
+    let pages = c.self.inside.pages in
+    let numbers = c.self.inside.numbers in
+    let from = c.args.from in
+    let range : from + c.args.most ≤ count = rw (← c.self.view_is, length_paged count pages numbers c.self.invariant) at c.requires.range in
+    let some : from < count = omega (arith, range, c.requires.some) in
+    let lies = place_of_page count pages numbers from c.self.invariant some in
+    let there = all_there 8 _ pages.list numbers c.self.invariant.paged.gathered in
+    let within = lies.within in
+    rw (← c.self.view_is)
+    (counted_stretch 8 pages.list numbers count from (from / 8) c.at-page.result (from % 8) c.min.result there c.at-page.ensures.is
+    (omega (arith, c.min.ensures, within)) lies.is (omega (arith, c.min.ensures, range)))

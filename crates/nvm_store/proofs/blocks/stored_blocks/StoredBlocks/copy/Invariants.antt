@@ -1,5 +1,0 @@
-use Rattle.std.proofs.Common.{◌≡◌, take}
-use Rattle.nvm_store.proofs.blocks.stored_blocks.StoredBlocks.copy.Given as goal
-
-abbrev pub invariant-loop-block : goal.invariant-loop-block
-invariant-loop-block l = l.copies.items ≡ take l.block-index l.block-items
