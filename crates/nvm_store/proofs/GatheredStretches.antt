@@ -8,7 +8,8 @@ use Rattle.nvm_record.specs.declared.block.Block.{Block}
 use Rattle.nvm_record.specs.Lists.{IsAt}
 use Rattle.nvm_record.specs.Medium.{has_mark}
 use Rattle.nvm_store.specs.Inside.Gathered.{row_of, gathered}
-use Rattle.nvm_store.specs.Inside.Pages.{Kept, IsPaged}
+use Rattle.nvm_store.specs.Inside.Flat.{SizedBlocks}
+use Rattle.nvm_store.specs.Inside.Pages.{ArePagedBlocks}
 use Rattle.nvm_store.specs.Inside.Rewrite.{IsRewritten, stretch_of}
 use Rattle.nvm_store.proofs.Gathering.{AreThere, all_there, length_gathered, length_row, place_of_row}
 use Rattle.nvm_store.proofs.Parts.{LiesIn}
@@ -69,7 +70,7 @@ module _ {A : Type 0} where
       ∙ gathered_stretch w rows numbers k n j c there is le
 
 -- There are as many blocks as count.
-pub length_paged : (count : ℕ) (pages : Kept) (numbers : List ℕ) → IsPaged count pages numbers
+pub length_paged : (count : ℕ) (pages : SizedBlocks) (numbers : List ℕ) → ArePagedBlocks count pages numbers
     → length (take count (gathered 8 pages.list numbers)) ≡ count
 length_paged count pages numbers is =
     let all = gathered 8 pages.list numbers in
@@ -78,7 +79,7 @@ length_paged count pages numbers is =
     length-take-le count all (omega (arith, len, enough))
 
 -- A place of those that count lies in a page.
-pub place_of_page : (count : ℕ) (pages : Kept) (numbers : List ℕ) (at : ℕ) → IsPaged count pages numbers → at < count → LiesIn 8 at (length numbers)
+pub place_of_page : (count : ℕ) (pages : SizedBlocks) (numbers : List ℕ) (at : ℕ) → ArePagedBlocks count pages numbers → at < count → LiesIn 8 at (length numbers)
 place_of_page count pages numbers at is lt =
     let len = length_gathered 8 pages.list numbers (all_there 8 _ pages.list numbers is.paged.gathered) in
     let enough = is.enough in
@@ -99,7 +100,7 @@ unmarked_stretches blocks stretch from left n is le none =
     unmarked_parts stretch (stretch_of (from + n) (left - n) blocks) (sym (ap has_mark (next_stretch blocks stretch from left n is le)) ∙ none)
 
 -- A change of the gathered blocks within those that count is one of these.
-pub counted_change : (count : ℕ) (pages others : Kept) (numbers after : List ℕ) (at n : ℕ) (news : ℕ → Block) → IsPaged count pages numbers
+pub counted_change : (count : ℕ) (pages others : SizedBlocks) (numbers after : List ℕ) (at n : ℕ) (news : ℕ → Block) → ArePagedBlocks count pages numbers
     → at + n ≤ length (take count (gathered 8 pages.list numbers)) → IsRewritten at n news (gathered 8 pages.list numbers) (gathered 8 others.list after)
     → IsRewritten at n news (take count (gathered 8 pages.list numbers)) (take count (gathered 8 others.list after))
 counted_change count pages others numbers after at n news is within put =

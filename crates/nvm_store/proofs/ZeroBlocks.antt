@@ -10,7 +10,7 @@ use Rattle.nvm_store.specs.Inside.Rewrite.{IsRewritten, stretch_of, zero_block}
 use Rattle.nvm_store.specs.declared.blocks.Memory.{Memory}
 use Rattle.nvm_store.specs.declared.blocks.Memory.TheVariants.{Shared, Zeroes, Flat, Paged}
 use Rattle.nvm_store.proofs.Gathering.{at_replicate}
-use Rattle.nvm_store.proofs.OwnBytes.{joined_stretch, unmarked_stretch, zeroes_cut, zeroes_part}
+use Rattle.nvm_store.proofs.FlatBytes.{joined_stretch, unmarked_stretch, zeroes_cut, zeroes_part}
 use Rattle.nvm_store.proofs.Rewrites.{rewritten_all, rewritten_as_they_were}
 
 -- None is marked.

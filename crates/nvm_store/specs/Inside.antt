@@ -8,7 +8,7 @@ pub mod Tree
 pub mod Levels
 pub mod Source
 -- The blocks of a unit in one piece of memory.
-pub mod Own
+pub mod Flat
 pub mod Memory
 -- Rows that are known by their numbers, and pages of blocks.
 pub mod Gathered

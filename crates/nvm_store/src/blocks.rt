@@ -8,23 +8,25 @@ ghost use Rattle.nvm_store.specs.Inside.Memory.{AreFew, FitsSize, listed, is_own
 ghost use Rattle.nvm_store.specs.Inside.Rewrite.{IsRewritten, stretch_of, zero_block};
 
 mod content;
+mod flat_blocks;
 mod fork;
 mod leaf;
 mod levels;
 mod numbers;
+mod page_numbers;
 mod paged_blocks;
-mod pages;
+mod reading;
 mod shared_blocks;
 mod source;
 mod stored_block;
 mod stretches;
 mod tree;
 
+use crate::blocks::flat_blocks::FlatBlocks;
 use crate::blocks::paged_blocks::PagedBlocks;
-use crate::blocks::pages::Pages;
 use crate::blocks::shared_blocks::SharedBlocks;
-use crate::blocks::stored_block::{is_zeroes, push_zeroes};
-use nvm_record::{NoMemory, PayloadRef, are_equal};
+use crate::blocks::source::Source;
+use nvm_record::{NoMemory, PayloadRef};
 use std::alloc::Global;
 use std::fmt;
 use std::fmt::{Debug, Formatter, Write};
@@ -34,11 +36,9 @@ use std::marker::Model;
 pub const MOST_FLAT_BYTES: usize = 65_536;
 /// The most bytes of a block that is in a page: eight of them are 4 KiB.
 pub const MOST_IN_PAGE: usize = 512;
-/// The most blocks that are in pages, whose numbers' rows are in one list.
-pub const MOST_PAGED: usize = 1_048_576;
 
-/// The blocks of one unit. Contracts see the size of each in bytes, their list, and whether they are in memory that is theirs alone. After an `Err` all blocks are
-/// as they were.
+/// The blocks of one unit. Contracts see the size of each in bytes, their list, and whether they are in memory that is theirs alone. After an `Err` all
+/// blocks are as they were.
 #[derive(Drop)]
 pub struct Blocks {
     size: usize,
@@ -53,7 +53,7 @@ pub enum Memory {
     /// Nowhere yet, since all of them are zeroes. They will have memory that is theirs alone.
     Zeroes(usize),
     /// In one piece of memory.
-    Flat(Pages),
+    Flat(FlatBlocks),
     /// In pages.
     Paged(PagedBlocks),
 }
@@ -94,13 +94,13 @@ impl Blocks {
     }
 
     /// The same, to be changed in place. They take no memory until the first of them is written or marked, and then are in one piece if they have at most
-    /// `MOST_FLAT_BYTES`, and else in pages; but more blocks than `MOST_PAGED` and blocks that are larger than in a page are in a tree.
+    /// `MOST_FLAT_BYTES`, and else in pages; but blocks of more than `MOST_IN_PAGE` bytes are in a tree then.
     pub fn own(alloc: Global, count: usize, size: usize) -> Result<Blocks, NoMemory>
         requires { AreFew size count }
         ensures size { IfOk result (λ blocks. blocks.size ≡ size) }
         ensures list { IfOk result (λ blocks. blocks.list ≡ replicate count (zero_block size)) }
     {
-        if count * size > MOST_FLAT_BYTES && (size > MOST_IN_PAGE || count > MOST_PAGED) {
+        if count * size > MOST_FLAT_BYTES && size > MOST_IN_PAGE {
             return Blocks::zeroed(alloc, count, size);
         }
         Ok(Blocks {
@@ -116,7 +116,7 @@ impl Blocks {
         match &self.memory {
             Memory::Shared(blocks) => blocks.len(),
             Memory::Zeroes(count) => *count,
-            Memory::Flat(pages) => pages.len(),
+            Memory::Flat(blocks) => blocks.len(),
             Memory::Paged(blocks) => blocks.len(),
         }
     }
@@ -139,7 +139,7 @@ impl Blocks {
         let memory = match &self.memory {
             Memory::Shared(blocks) => Memory::Shared(blocks.share()?),
             Memory::Zeroes(count) => Memory::Zeroes(*count),
-            Memory::Flat(pages) => Memory::Flat(pages.copy()?),
+            Memory::Flat(blocks) => Memory::Flat(blocks.copy()?),
             Memory::Paged(blocks) => Memory::Paged(blocks.copy()?),
         };
         Ok(Blocks {
@@ -161,6 +161,7 @@ impl Blocks {
         requires range { at + count ≤ length self.old.list }
         requires payload { length (lent_bytes payload) ≡ count * self.old.size }
         ensures size { self.new.size ≡ self.old.size }
+        ensures own { self.new.own ≡ self.old.own }
         ensures ok { OnOk result
             (IsRewritten at count (block_at self.old.size (lent_bytes payload.entry)) self.old.list self.new.list) }
         ensures err { OnErr result (self.new.list ≡ self.old.list) }
@@ -168,11 +169,13 @@ impl Blocks {
         match &mut self.memory {
             Memory::Shared(blocks) => blocks.write(alloc, at, count, self.size, payload),
             Memory::Zeroes(all) => {
-                self.memory = written(alloc, *all, self.size, at, count, payload.as_slice())?;
+                let size = self.size;
+                let source = Source::Data { size, payload };
+                self.memory = made(alloc, *all, size, at, count, &source)?;
                 Ok(())
             }
-            Memory::Flat(pages) => {
-                pages.put(at, count, payload.as_slice());
+            Memory::Flat(blocks) => {
+                blocks.put(at, count, payload.as_slice());
                 Ok(())
             }
             Memory::Paged(blocks) => blocks.write(at, count, payload.as_slice()),
@@ -196,8 +199,8 @@ impl Blocks {
         match &mut self.memory {
             Memory::Shared(blocks) => blocks.zero(alloc, at, count, self.size),
             Memory::Zeroes(_) => Ok(()),
-            Memory::Flat(pages) => {
-                pages.clear(at, count);
+            Memory::Flat(blocks) => {
+                blocks.clear(at, count);
                 Ok(())
             }
             Memory::Paged(blocks) => {
@@ -211,151 +214,49 @@ impl Blocks {
     pub fn mark(&mut self, alloc: Global, at: usize, count: usize) -> Result<(), NoMemory>
         requires { at + count ≤ length self.old.list }
         ensures size { self.new.size ≡ self.old.size }
+        ensures own { self.new.own ≡ self.old.own }
         ensures ok { OnOk result (IsRewritten at count (λ _. Uncorrectable) self.old.list self.new.list) }
         ensures err { OnErr result (self.new.list ≡ self.old.list) }
     {
         match &mut self.memory {
             Memory::Shared(blocks) => blocks.mark(alloc, at, count),
             Memory::Zeroes(all) => {
-                self.memory = marked(alloc, *all, self.size, at, count)?;
+                self.memory = made(alloc, *all, self.size, at, count, &Source::Marks)?;
                 Ok(())
             }
-            Memory::Flat(pages) => {
-                pages.mark(at, count);
+            Memory::Flat(blocks) => {
+                blocks.mark(at, count);
                 Ok(())
             }
             Memory::Paged(blocks) => blocks.mark(at, count),
         }
     }
-
-    /// Whether one of the `count` blocks from place `at` is marked.
-    pub fn has_mark(&self, at: usize, count: usize) -> bool
-        requires { at + count ≤ length self.now.list }
-        ensures { result ≡ medium.has_mark (stretch_of at count self.now.list) }
-    {
-        match &self.memory {
-            Memory::Shared(blocks) => blocks.has_mark(at, count),
-            Memory::Zeroes(_) => false,
-            Memory::Flat(pages) => pages.has_mark(at, count),
-            Memory::Paged(blocks) => blocks.has_mark(at, count),
-        }
-    }
-
-    /// Whether the bytes of the `count` blocks from place `at`, one block after the other, are exactly the
-    /// data. `None` if one of them is marked. It takes no memory.
-    #[inline(always)]
-    pub fn compare(&self, at: usize, count: usize, payload: &[u8]) -> Option<bool>
-        requires some { 0 < count }
-        requires range { at + count ≤ length self.now.list }
-        ensures marked { IfNone result (medium.has_mark (stretch_of at count self.now.list) ≡ true) }
-        ensures same { IfSome result (λ same. (medium.has_mark (stretch_of at count self.now.list) ≡ false)
-            × (same ≡ bytes_eq (medium.joined (stretch_of at count self.now.list)) payload.now)) }
-    {
-        match &self.memory {
-            Memory::Shared(blocks) => blocks.compare(at, count, payload),
-            Memory::Zeroes(_) => Some(is_zeroes(count * self.size, payload)),
-            Memory::Flat(pages) => {
-                if pages.has_mark(at, count) {
-                    return None;
-                }
-                Some(are_equal(pages.bytes(at, count), payload))
-            }
-            Memory::Paged(blocks) => blocks.compare(at, count, payload),
-        }
-    }
-
-    /// Appends the bytes of the `count` blocks from place `at`, of which none is marked, one block after the other. It takes no
-    /// memory where `bytes` has room for them.
-    pub fn push_bytes(&self, at: usize, count: usize, bytes: &mut Vec<u8>) -> Result<(), NoMemory>
-        requires range { at + count ≤ length self.now.list }
-        requires unmarked { medium.has_mark (stretch_of at count self.now.list) ≡ false }
-        ensures { OnOk result
-            (bytes.new.items ≡ bytes.old.items ++ medium.joined (stretch_of at count self.now.list)) }
-    {
-        match &self.memory {
-            Memory::Shared(blocks) => blocks.push_bytes(at, count, bytes),
-            Memory::Zeroes(_) => push_zeroes(count * self.size, bytes),
-            Memory::Flat(pages) => bytes.extend_from_slice(pages.bytes(at, count)),
-            Memory::Paged(blocks) => blocks.push_bytes(at, count, bytes),
-        }
-    }
-
-    /// Whether one of the `count` blocks from place `at` is marked. Else their bytes, one block after the other, are in the buffer, which has room
-    /// for exactly these.
-    #[inline(always)]
-    pub fn read_into(&self, at: usize, count: usize, buffer: &mut [u8]) -> bool
-        requires some { 0 < count }
-        requires range { at + count ≤ length self.now.list }
-        requires room { medium.has_mark (stretch_of at count self.now.list) ≡ false
-            → length buffer.old ≡ length (medium.joined (stretch_of at count self.now.list)) }
-        ensures marked { result ≡ medium.has_mark (stretch_of at count self.now.list) }
-        ensures read { result ≡ false → buffer.new ≡ medium.joined (stretch_of at count self.now.list) }
-        ensures left { result ≡ true → buffer.new ≡ buffer.old }
-    {
-        match &self.memory {
-            Memory::Shared(blocks) => blocks.read_into(at, count, buffer),
-            Memory::Zeroes(_) => {
-                buffer.fill(0);
-                false
-            }
-            Memory::Flat(pages) => {
-                if pages.has_mark(at, count) {
-                    return true;
-                }
-                buffer.copy_from_slice(pages.bytes(at, count));
-                false
-            }
-            Memory::Paged(blocks) => blocks.read_into(at, count, buffer),
-        }
-    }
 }
 
-/// Memory for `all` blocks of `size` zero bytes, of which the `count` from place `at` take the data.
+/// Memory for `all` blocks of `size` zero bytes, of which the `count` from place `at` become the source's.
 #[inline(never)]
-fn written(
+fn made(
     alloc: Global,
     all: usize,
     size: usize,
     at: usize,
     count: usize,
-    payload: &[u8],
-) -> Result<Memory, NoMemory>
-    requires few { AreFew size all }
-    requires some { 0 < count }
-    requires range { at + count ≤ all }
-    requires payload { length payload.now ≡ count * size }
-    ensures fits { IfOk result (FitsSize size) }
-    ensures list { IfOk result (λ memory. IsRewritten at count (block_at size payload.now) (replicate all (zero_block size)) (listed size memory)) }
-{
-    if all * size <= MOST_FLAT_BYTES {
-        let mut pages = Pages::zeroed(alloc, all, size)?;
-        pages.put(at, count, payload);
-        return Ok(Memory::Flat(pages));
-    }
-    let mut blocks = PagedBlocks::zeroed(alloc, all, size)?;
-    blocks.write(at, count, payload)?;
-    Ok(Memory::Paged(blocks))
-}
-
-/// Memory for `all` blocks of `size` zero bytes, of which the `count` from place `at` are marked.
-fn marked(
-    alloc: Global,
-    all: usize,
-    size: usize,
-    at: usize,
-    count: usize,
+    source: &Source<'_>,
 ) -> Result<Memory, NoMemory>
     requires few { AreFew size all }
     requires range { at + count ≤ all }
+    requires source { HasBlocks source.now count }
+    requires size { HasSize source.now size }
     ensures fits { IfOk result (FitsSize size) }
-    ensures list { IfOk result (λ memory. IsRewritten at count (λ _. Uncorrectable) (replicate all (zero_block size)) (listed size memory)) }
+    ensures own { IfOk result (λ memory. is_own memory ≡ true) }
+    ensures list { IfOk result (λ memory. IsRewritten at count (source_block source.now) (replicate all (zero_block size)) (listed size memory)) }
 {
     if all * size <= MOST_FLAT_BYTES {
-        let mut pages = Pages::zeroed(alloc, all, size)?;
-        pages.mark(at, count);
-        return Ok(Memory::Flat(pages));
+        let mut blocks = FlatBlocks::zeroed(alloc, all, size)?;
+        blocks.fill(at, count, 0, source);
+        return Ok(Memory::Flat(blocks));
     }
     let mut blocks = PagedBlocks::zeroed(alloc, all, size)?;
-    blocks.mark(at, count)?;
+    blocks.put(at, count, source)?;
     Ok(Memory::Paged(blocks))
 }

@@ -70,9 +70,10 @@ impl UnitBlocks {
         })
     }
 
-    /// What [`zeroed`](UnitBlocks::zeroed) gives, to be changed in place. Where its blocks have at most 65,536 bytes they are in one piece of
-    /// memory, which the first Write asks for, and a share of the unit copies. They move into a tree once one of them is marked. More blocks of at
-    /// most 512 bytes are in pages of 8, which take memory once one of theirs is written or marked, and a share copies these too.
+    /// What [`zeroed`](UnitBlocks::zeroed) gives, to be changed in place. It takes no memory until a block is written or marked. From then on blocks that have at
+    /// most 65,536 bytes are in one piece of memory, and more blocks of at most 512 bytes in pages of 8, each of which takes memory once a block of its is
+    /// written or marked, and gives it back once one command zeroes all eight. A share of the unit copies all of that. Larger blocks are in a tree, as
+    /// those of `zeroed` are.
     pub fn own(
         alloc: Global,
         first: u64,
@@ -135,11 +136,10 @@ impl UnitBlocks {
 
     /// Makes the act's step, at the cost of its own blocks and of their ways in the tree, whatever else the
     /// unit holds. A Deallocate clears each block once, and costs a walk over the ranges for each run of
-    /// blocks that it clears. Where no other unit shares them, these are changed in place: one block that is
+    /// blocks that it clears. In a tree, where no other unit shares them, these are changed in place: one block that is
     /// written, and blocks of one leaf that are zeroed, marked, or cleared as the only run of a Deallocate.
-    /// Blocks in one piece of memory are written and zeroed in place: the first that is written makes all of the unit's bytes, and a mark
-    /// copies them, which are 65,536 at most. Blocks in pages of the unit's own are always changed in place.
-    /// Where memory is refused, the unit is as it was.
+    /// Blocks of a unit made by [`own`](UnitBlocks::own) that are in one piece of memory or in pages are always changed in place; to zero them is never
+    /// refused. Where memory is refused, the unit is as it was.
     #[inline(always)]
     pub fn change(&mut self, alloc: Global, act: ActRef<'_>) -> Result<(), NoMemory>
         requires covered { Covers self.old (lent_operation_of act) }
@@ -219,9 +219,8 @@ impl UnitBlocks {
         self.blocks.mark(alloc, at, blocks as usize)
     }
 
-    /// Those of the `blocks` LBAs from `first` that are in one of the ranges become zero bytes. One run of them is
-    /// cleared as a Write Zeroes is. Several are cleared in place in memory of the unit's own, and else in a share, which takes the unit's
-    /// place where nothing was refused.
+    /// Those of the `blocks` LBAs from `first` that are in one of the ranges become zero bytes: in place in memory of the unit's own. Else one run
+    /// of them is cleared as a Write Zeroes is, and several in a share, which takes the unit's place where nothing was refused.
     fn deallocate(
         &mut self,
         alloc: Global,
@@ -235,6 +234,9 @@ impl UnitBlocks {
         ensures place { StaysInPlace self.old self.new }
         ensures err { OnErr result (self.new ≡ self.old) }
     {
+        if self.blocks.is_own() {
+            return clear_runs(&mut self.blocks, alloc, self.first, first, blocks, ranges);
+        }
         cut_ranges_lie_within();
         // The unit's LBAs fit, so each of them does.
         let _first = self.first;
@@ -246,53 +248,30 @@ impl UnitBlocks {
         if lowest_cut(past, left, ranges).is_none() {
             return self.zero(alloc, run.first, run.blocks);
         }
-        if self.blocks.is_own() {
-            clear_runs(&mut self.blocks, alloc, self.first, first, blocks, ranges);
-            return Ok(());
-        }
-        *self = self.deallocated(alloc, first, blocks, ranges)?;
+        let mut after = self.blocks.share()?;
+        clear_runs(&mut after, alloc, self.first, first, blocks, ranges)?;
+        self.blocks = after;
         Ok(())
-    }
-
-    /// A unit that shares the blocks, of which those that are among the `blocks` LBAs from `first` and in one
-    /// of the ranges became zero bytes. Each is cleared once, also where ranges overlap; each run of blocks
-    /// that is cleared costs a walk over the ranges.
-    fn deallocated(
-        &self,
-        alloc: Global,
-        first: u64,
-        blocks: u32,
-        ranges: &[u8],
-    ) -> Result<UnitBlocks, NoMemory>
-        requires { IsWithin (place_of self.now) first blocks }
-        ensures step { IfOk result (λ unit. (m : Medium) → Holds self.now m → Holds unit
-            (medium_after self.now.size (deallocate_operation first blocks (ranges_of ranges.now)) m)) }
-        ensures place { IfOk result (StaysInPlace self.now) }
-    {
-        cut_ranges_lie_within();
-        let mut after = self.share()?;
-        let mut from = first;
-        let mut left = blocks;
-        while let Some(run) = lowest_cut(from, left, ranges) {
-            after.zero(alloc, run.first, run.blocks)?;
-            let past = run.first + u64::from(run.blocks);
-            left -= (past - from) as u32;
-            from = past;
-        }
-        Ok(after)
     }
 }
 
-/// Of blocks in memory of their own, which begin at LBA `start`, those become zero bytes that are among the `count` LBAs from `first` and in
-/// one of the ranges. That is never refused.
-fn clear_runs(blocks: &mut Blocks, alloc: Global, start: u64, first: u64, count: u32, ranges: &[u8])
-    requires own { blocks.old.own ≡ true }
+/// Of the blocks from LBA `start`, those become zero bytes that are among the `count` LBAs from `first` and in one of the ranges. Each is cleared once, also
+/// where ranges overlap. In memory of their own that is never refused; else some of them may have become zero bytes then.
+fn clear_runs(
+    blocks: &mut Blocks,
+    alloc: Global,
+    start: u64,
+    first: u64,
+    count: u32,
+    ranges: &[u8],
+) -> Result<(), NoMemory>
     requires sound { AreSound start blocks.old.size blocks.old.list }
     requires range { IsWithin (place_of (unit_from start blocks.old)) first count }
     ensures sound { AreSound start blocks.new.size blocks.new.list }
     ensures place { StaysInPlace (unit_from start blocks.old) (unit_from start blocks.new) }
-    ensures step { (m : Medium) → Holds (unit_from start blocks.old) m → Holds (unit_from start blocks.new)
-        (medium_after blocks.old.size (deallocate_operation first count (ranges_of ranges.now)) m) }
+    ensures never { blocks.old.own ≡ true → IsOk result }
+    ensures step { OnOk result ((m : Medium) → Holds (unit_from start blocks.old) m → Holds (unit_from start blocks.new)
+        (medium_after blocks.old.size (deallocate_operation first count (ranges_of ranges.now)) m)) }
 {
     cut_ranges_lie_within();
     steps_are_local();
@@ -300,11 +279,10 @@ fn clear_runs(blocks: &mut Blocks, alloc: Global, start: u64, first: u64, count:
     let mut left = count;
     while let Some(run) = lowest_cut(from, left, ranges) {
         let at = (run.first - start) as usize;
-        if blocks.zero(alloc, at, run.blocks as usize).is_err() {
-            unreachable!("zeroing own memory takes none");
-        }
+        blocks.zero(alloc, at, run.blocks as usize)?;
         let past = run.first + u64::from(run.blocks);
         left -= (past - from) as u32;
         from = past;
     }
+    Ok(())
 }

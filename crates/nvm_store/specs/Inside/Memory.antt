@@ -4,7 +4,7 @@ use Rattle.nvm_record.specs.declared.block.Block.{Block}
 use Rattle.nvm_store.specs.declared.blocks.Memory.{Memory}
 use Rattle.nvm_store.specs.declared.blocks.Memory.TheVariants.{Shared, Zeroes, Flat, Paged}
 use Rattle.nvm_store.specs.Contents.{Contents}
-use Rattle.nvm_store.specs.Inside.Pages.{Kept}
+use Rattle.nvm_store.specs.Inside.Flat.{SizedBlocks}
 use Rattle.nvm_store.specs.Inside.Rewrite.{zero_block}
 use Rattle.nvm_store.specs.Inside.Sound.{AreSound}
 
@@ -34,7 +34,7 @@ pub record AreFew (size count : ℕ) : Type 0 where
   pub small : size ≤ 65536
 
 -- They have this size, and are few.
-pub record AreKept (size : ℕ) (blocks : Kept) : Type 0 where
+pub record AreFewOfSize (size : ℕ) (blocks : SizedBlocks) : Type 0 where
   pub same : blocks.size ≡ size
   pub few : AreFew size (length blocks.list)
 
@@ -42,8 +42,8 @@ pub record AreKept (size : ℕ) (blocks : Kept) : Type 0 where
 abbrev pub FitsSize : ℕ → Memory → Type 0
 FitsSize size (Shared blocks) = Unit {0}
 FitsSize size (Zeroes count) = AreFew size count
-FitsSize size (Flat pages) = AreKept size pages
-FitsSize size (Paged blocks) = AreKept size blocks
+FitsSize size (Flat pages) = AreFewOfSize size pages
+FitsSize size (Paged blocks) = AreFewOfSize size blocks
 
 -- A unit of this first LBA and block size has these blocks.
 pub record IsUnit (first size : ℕ) (blocks : InMemory) : Type 0 where

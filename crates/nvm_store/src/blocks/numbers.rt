@@ -1,4 +1,4 @@
-ghost use Rattle.std.specs.Prelude.{◌≡◌, ◌+◌, ◌^◌, ◌<◌, ◌≤◌, IfOk, OnErr, OnOk, length, replicate, slice_set};
+ghost use Rattle.std.specs.Prelude.{◌≡◌, ◌⊎◌, ℕ, ◌+◌, ◌^◌, ◌<◌, ◌≤◌, IfOk, OnErr, OnOk, length, replicate, slice_set};
 ghost use Rattle.nvm_record.specs.Lists.{IsAt};
 ghost use Rattle.nvm_store.specs.Inside.Gathered.{gathered, AreNumbers};
 
@@ -65,13 +65,25 @@ impl Numbers {
         Ok(())
     }
 
-    /// Gives a place the number 0.
-    pub fn clear(&mut self, place: usize)
-        requires { place < length self.old }
-        ensures { self.new ≡ slice_set self.old place 0 }
+    /// Gives a place that has a number another one, or any place the number 0.
+    pub fn set(&mut self, place: usize, number: u32)
+        requires place { place < length self.old }
+        requires own { (number ≡ 0) ⊎ ((n : ℕ) → IsAt self.old place n → 0 < n) }
+        ensures { self.new ≡ slice_set self.old place number }
     {
         let row = self.top[place / ROW] as usize;
-        self.rows[row * ROW + place % ROW] = 0;
+        self.rows[row * ROW + place % ROW] = number;
+    }
+
+    /// Makes the rows of the places from `from` up to `to`, so that giving them numbers takes no memory.
+    pub fn make_rows(&mut self, from: usize, to: usize) -> Result<(), NoMemory>
+        requires { to ≤ length self.old }
+        ensures { self.new ≡ self.old }
+    {
+        for at in from / ROW..(to + ROW - 1) / ROW {
+            own_row(&mut self.top, &mut self.rows, at)?;
+        }
+        Ok(())
     }
 
     /// The same numbers in memory of their own.

@@ -3,8 +3,8 @@ ghost use Rattle.std.specs.Str.{bytes_eq};
 ghost use Rattle.nvm_record.specs.Medium as medium;
 ghost use Rattle.nvm_store.specs.Inside.Rewrite.{stretch_of};
 
+use crate::blocks::flat_blocks::FlatBlocks;
 use crate::blocks::paged_blocks::{PAGE, PagedBlocks};
-use crate::blocks::pages::Pages;
 use crate::blocks::stored_block::{behind_bytes, put_bytes};
 use nvm_record::{NoMemory, are_equal};
 
@@ -165,7 +165,7 @@ impl PagedBlocks {
 /// Some blocks of a page.
 #[derive(Clone, Copy)]
 struct Stretch<'a> {
-    pages: &'a Pages,
+    pages: &'a FlatBlocks,
     /// The first one's place among all pages' blocks.
     at: usize,
     len: usize,

@@ -3,7 +3,7 @@ use Rattle.std.proofs.lemmas.List.{length-replicate}
 use Rattle.nvm_record.specs.declared.block.Block.{Block}
 use Rattle.nvm_record.specs.Lists.{IsAt}
 use Rattle.nvm_store.specs.Inside.Gathered.{gathered}
-use Rattle.nvm_store.specs.Inside.Pages.{Kept}
+use Rattle.nvm_store.specs.Inside.Flat.{SizedBlocks}
 use Rattle.nvm_store.specs.Inside.Rewrite.{IsRewritten, zero_block}
 use Rattle.nvm_store.proofs.GatheredStretches.{counted_change, length_paged}
 use Rattle.nvm_store.proofs.Gathering.{at_replicate}
