@@ -2,7 +2,7 @@
 use Rattle.std.proofs.Common.{◌≡◌, ◌⊎◌, ℕ, zero, suc, ◌+◌, ◌-◌, ◌*◌, ◌<◌, ◌≤◌, List, [], ◌∷◌, ◌++◌, length, take, drop, replicate, get_or, Bool, true, false, refl, sym, ap, ◌∙◌, subst, arith, inl, inr}
 use mathlib.Core.Option.{some-injective, some-ne-none}
 use Rattle.std.proofs.lemmas.Bool.{true≢false}
-use Rattle.std.proofs.lemmas.List.{drop-append-le, length-append, length-drop, length-replicate, length-take-le, replicate-append-replicate, take-append-le, take_all}
+use Rattle.std.proofs.lemmas.List.{drop-append-le, drop-replicate, length-append, length-drop, length-replicate, length-take-le, replicate-append-replicate, take-append-le, take-replicate, take_all}
 use Rattle.std.specs.Bool.{if◌then◌else◌}
 use Rattle.std.specs.Prelude.{Err, IsOk, Ok, OnOk, Result, is_ok}
 use Rattle.std.specs.List.{list_any}
@@ -15,7 +15,7 @@ use Rattle.nvm_store.specs.Inside.Flat.{SizedBlocks, cut, marked_as, with_bytes}
 use Rattle.nvm_store.specs.Inside.Rewrite.{IsRewritten, stretch_of, zero_block}
 use Rattle.nvm_store.proofs.AtLemmas.{at_append_left, at_below, at_read}
 use Rattle.nvm_store.proofs.Data.{none_left}
-use Rattle.nvm_store.proofs.FlatBytes.{at_cut, joined_stretch, length_cut, length_with_bytes, rewritten_cut, sized_cut, span_within, stretch_cut, unmarked_stretch, zeroed_cut, zeroes_cut}
+use Rattle.nvm_store.proofs.FlatBytes.{at_cut, cut_front, drop_cut, joined_stretch, length_cut, length_with_bytes, mul_le, rewritten_cut, span_within, stretch_cut, take_cut, unmarked_stretch, zeroed_cut, zeroes_cut}
 use Rattle.nvm_store.proofs.Rewrites.{at_append_right, at_take}
 
 length_marked_as : (marks : List Bool) (blocks : List Block) → length (marked_as marks blocks) ≡ length blocks
@@ -24,14 +24,14 @@ length_marked_as (mark ∷ marks) [] = refl
 length_marked_as (mark ∷ marks) (block ∷ blocks) = ap suc (length_marked_as marks blocks)
 
 -- There is one block for each mark.
-pub length_pages : (marks : List Bool) (size : ℕ) (bytes : List ℕ) → length (marked_as marks (cut (length marks) size bytes)) ≡ length marks
-length_pages marks size bytes = length_marked_as marks (cut (length marks) size bytes) ∙ length_cut (length marks) size bytes
+pub length_flat : (marks : List Bool) (size : ℕ) (bytes : List ℕ) → length (marked_as marks (cut (length marks) size bytes)) ≡ length marks
+length_flat marks size bytes = length_marked_as marks (cut (length marks) size bytes) ∙ length_cut (length marks) size bytes
 
 -- So places among the blocks are places among the marks.
-pub pages_within : (marks : List Bool) (size : ℕ) (bytes : List ℕ) (kept : SizedBlocks) (m : ℕ)
+pub flat_within : (marks : List Bool) (size : ℕ) (bytes : List ℕ) (kept : SizedBlocks) (m : ℕ)
     → ◌≡◌ {A = SizedBlocks} (record { size = size; list = marked_as marks (cut (length marks) size bytes) }) kept → m ≤ length kept.list → m ≤ length marks
-pages_within marks size bytes kept m is le =
-    let len = length_pages marks size bytes in
+flat_within marks size bytes kept m is le =
+    let len = length_flat marks size bytes in
     let same = ap (λ (k : SizedBlocks). length k.list) is in
     omega (arith, le, len, same)
 
@@ -238,7 +238,7 @@ put_unmarked at count size marks payload old new within few whole put none =
 
 zeroed_pages : (at count n size : ℕ) (old new : List ℕ) → at + count ≤ n → length old ≡ n * size → new ≡ with_bytes (at * size) (replicate (count * size) 0) old
     → IsRewritten at count (λ i. zero_block size) (cut n size old) (cut n size new)
-zeroed_pages at count n size old new within whole put = rw put (zeroed_cut size n size at count old (sized_cut n size old whole) whole within)
+zeroed_pages at count n size old new within whole put = rw put (zeroed_cut n size at count old whole within)
 
 pub clear_marked : (at count size : ℕ) (marks others : List Bool) (old new : List ℕ) → at + count ≤ length marks → length old ≡ length marks * size
     → new ≡ with_bytes (at * size) (replicate (count * size) 0) old → others ≡ with_marks at count false marks
@@ -263,24 +263,37 @@ mark_marked at count size marks others bytes within is =
       others = λ j block out there. there;
     })
 
+-- Blocks of zero bytes of which none is marked.
+pub fresh_pages : (count size : ℕ) (marks : List Bool) (bytes : List ℕ) → marks ≡ replicate count false → bytes ≡ replicate (count * size) 0
+    → marked_as marks (cut (length marks) size bytes) ≡ replicate count (zero_block size)
+fresh_pages count size marks bytes none zeroes = rw (none, zeroes, length-replicate count false, unmarked_as count) (zeroes_cut count size)
+
+-- Blocks side by side, where the first have all their bytes.
+flat_append : (size : ℕ) (marks others : List Bool) (bytes rest : List ℕ) → length bytes ≡ length marks * size
+    → marked_as (marks ++ others) (cut (length (marks ++ others)) size (bytes ++ rest))
+    ≡ marked_as marks (cut (length marks) size bytes) ++ marked_as others (cut (length others) size rest)
+flat_append size [] others bytes rest whole =
+    let none : 0 * size ≡ 0 = omega arith in
+    let empty = none_left bytes (whole ∙ none) in
+    rw (← empty) refl
+flat_append size (mark ∷ marks) others bytes rest whole =
+    let one : suc (length marks) * size ≡ size + length marks * size = grind arith in
+    let front : size ≤ length bytes = omega (arith, whole, one) in
+    let first : take size (bytes ++ rest) ≡ take size bytes = take-append-le size bytes rest front in
+    let behind : drop size (bytes ++ rest) ≡ drop size bytes ++ rest = drop-append-le size bytes rest front in
+    let left : length (drop size bytes) ≡ length marks * size = length-drop size bytes ∙ omega (arith, whole, one) in
+    rw (first, behind)
+    (ap (λ (l : List Block). (if mark then Uncorrectable else Bytes (take size bytes)) ∷ l) (flat_append size marks others (drop size bytes) rest left))
+
 -- Blocks of zero bytes come after the others.
-pub extended : (n size : ℕ) (marks : List Bool) (bytes : List ℕ) → length bytes ≡ length marks * size
+extended : (n size : ℕ) (marks : List Bool) (bytes : List ℕ) → length bytes ≡ length marks * size
     → marked_as (marks ++ replicate n false)
     (cut (length (marks ++ replicate n false)) size (bytes ++ replicate (n * size) 0))
     ≡ marked_as marks (cut (length marks) size bytes) ++ replicate n (zero_block size)
-extended n size [] bytes whole =
-    let none : 0 * size ≡ 0 = omega arith in
-    let empty = none_left bytes (whole ∙ none) in
-    rw (← empty, length-replicate n false, unmarked_as n) (zeroes_cut n size)
-extended n size (mark ∷ marks) bytes whole =
-    let zeroes = replicate {A = ℕ} (n * size) 0 in
-    let one : suc (length marks) * size ≡ size + length marks * size = grind arith in
-    let front : size ≤ length bytes = omega (arith, whole, one) in
-    let first : take size (bytes ++ zeroes) ≡ take size bytes = take-append-le size bytes zeroes front in
-    let rest : drop size (bytes ++ zeroes) ≡ drop size bytes ++ zeroes = drop-append-le size bytes zeroes front in
-    let left : length (drop size bytes) ≡ length marks * size = length-drop size bytes ∙ omega (arith, whole, one) in
-    rw (first, rest)
-    (ap (λ (l : List Block). (if mark then Uncorrectable else Bytes (take size bytes)) ∷ l) (extended n size marks (drop size bytes) left))
+extended n size marks bytes whole =
+    flat_append size marks (replicate n false) bytes (replicate (n * size) 0) whole
+    ∙ ap (λ (l : List Block). marked_as marks (cut (length marks) size bytes) ++ l)
+    (fresh_pages n size (replicate n false) (replicate (n * size) 0) refl refl)
 
 -- all of a list, and more
 resized : {A : Type 0} (n : ℕ) (xs : List A) (x : A) (k : ℕ) → n ≡ length xs + k → take n xs ++ replicate (n - length xs) x ≡ xs ++ replicate k x
@@ -326,11 +339,6 @@ module _ (n size count : ℕ) (marks others : List Bool) (old new : List ℕ) (w
       ∙ replicate-append-replicate (length marks) n false
       ∙ ap (λ (k : ℕ). replicate k false) (sym count_others)
 
--- Blocks of zero bytes of which none is marked.
-pub fresh_pages : (count size : ℕ) (marks : List Bool) (bytes : List ℕ) → marks ≡ replicate count false → bytes ≡ replicate (count * size) 0
-    → marked_as marks (cut (length marks) size bytes) ≡ replicate count (zero_block size)
-fresh_pages count size marks bytes none zeroes = rw (none, zeroes, length-replicate count false, unmarked_as count) (zeroes_cut count size)
-
 -- What is there after a call that succeeds.
 pub where_ok : {X E A : Type 0} (r : Result X E) (x a b : A) → IsOk r → x ≡ (if is_ok r then a else b) → x ≡ a
 where_ok (Ok y) x a b ok is = is
@@ -339,3 +347,116 @@ where_ok (Err e) x a b ok is = absurd (true≢false (sym ok))
 pub on_ok : {X E : Type 0} (r : Result X E) (P : Type 0) → P → OnOk r P
 on_ok (Ok y) P is = is
 on_ok (Err e) P is = tt
+
+-- The first blocks have the first marks and bytes,
+pub flat_take : (n size : ℕ) (marks : List Bool) (bytes : List ℕ) → n ≤ length marks
+    → marked_as (take n marks) (cut (length (take n marks)) size (take (n * size) bytes)) ≡ take n (marked_as marks (cut (length marks) size bytes))
+flat_take n size marks bytes le =
+    ap (λ (k : ℕ). marked_as (take n marks) (cut k size (take (n * size) bytes))) (length-take-le n marks le)
+    ∙ ap (marked_as (take n marks)) (cut_front n size bytes ∙ sym (take_cut n (length marks) size bytes le))
+    ∙ sym (take_marked n marks (cut (length marks) size bytes))
+
+-- and those behind them have the others.
+flat_drop : (n size : ℕ) (marks : List Bool) (bytes : List ℕ) → n ≤ length marks
+    → marked_as (drop n marks) (cut (length (drop n marks)) size (drop (n * size) bytes)) ≡ drop n (marked_as marks (cut (length marks) size bytes))
+flat_drop n size marks bytes le =
+    ap (λ (k : ℕ). marked_as (drop n marks) (cut k size (drop (n * size) bytes))) (length-drop n marks)
+    ∙ ap (marked_as (drop n marks)) (sym (drop_cut n (length marks) size bytes le))
+    ∙ sym (drop_marked n marks (cut (length marks) size bytes))
+
+-- There are as many of their bytes.
+pub take_whole : (n size : ℕ) (marks : List Bool) (bytes : List ℕ) → n ≤ length marks → length bytes ≡ length marks * size
+    → length (take (n * size) bytes) ≡ length (take n marks) * size
+take_whole n size marks bytes le whole =
+    let far = mul_le n (length marks) size le in
+    length-take-le (n * size) bytes (omega (arith, far, whole)) ∙ ap (λ (k : ℕ). k * size) (sym (length-take-le n marks le))
+
+drop_whole : (n size : ℕ) (marks : List Bool) (bytes : List ℕ) → n ≤ length marks → length bytes ≡ length marks * size
+    → length (drop (n * size) bytes) ≡ length (drop n marks) * size
+drop_whole n size marks bytes le whole =
+    let m = length marks - n in
+    let all : length marks ≡ n + m = omega (arith, le) in
+    let past : (n + m) * size ≡ n * size + m * size = grind arith in
+    length-drop (n * size) bytes
+    ∙ ap (λ (k : ℕ). k - n * size) (whole ∙ ap (λ (k : ℕ). k * size) all ∙ past)
+    ∙ omega arith
+    ∙ ap (λ (k : ℕ). k * size) (sym (length-drop n marks))
+
+-- None of the first is marked where none of all is.
+pub take_none : (n : ℕ) (marks : List Bool) → n ≤ length marks → marks ≡ replicate (length marks) false
+    → take n marks ≡ replicate (length (take n marks)) false
+take_none n marks le none =
+    ap (take n) none
+    ∙ take-replicate n (length marks) false le
+    ∙ ap (λ (k : ℕ). replicate k false) (sym (length-take-le n marks le))
+
+-- the items, of which `count` from place `from` are put over those from place `to`
+abbrev copied : {A : Type 0} → ℕ → ℕ → ℕ → List A → List A
+copied from to count xs = take to xs ++ (take count (drop from xs) ++ drop (to + count) xs)
+
+module _ {A : Type 0} (from to count : ℕ) (xs : List A) (range : from + count ≤ length xs) (low : to + count ≤ from) where
+  length_copied : length (copied from to count xs) ≡ length xs
+  length_copied =
+      let first : length (take to xs) ≡ to = length-take-le to xs (omega (arith, range, low)) in
+      let left : length (drop from xs) ≡ length xs - from = length-drop from xs in
+      let few : length (take count (drop from xs)) ≡ count = length-take-le count (drop from xs) (omega (arith, left, range)) in
+      let rest : length (drop (to + count) xs) ≡ length xs - (to + count) = length-drop (to + count) xs in
+      length-append (take to xs) (take count (drop from xs) ++ drop (to + count) xs)
+      ∙ ap (λ (k : ℕ). length (take to xs) + k) (length-append (take count (drop from xs)) (drop (to + count) xs))
+      ∙ omega (arith, range, low, first, few, rest)
+
+-- What there is of the blocks where the bytes and the marks of some are put over those of others.
+module _ (from to count size : ℕ) (marks others : List Bool) (old new : List ℕ) (range : from + count ≤ length marks) (low : to + count ≤ from)
+    (whole : length old ≡ length marks * size) (put : new ≡ copied (from * size) (to * size) (count * size) old)
+    (set : others ≡ copied from to count marks) where
+  pub copied_flat : marked_as others (cut (length others) size new)
+      ≡ copied from to count (marked_as marks (cut (length marks) size old))
+  copied_flat =
+      let past : to * size + count * size ≡ (to + count) * size = grind arith in
+      let all = marked_as marks (cut (length marks) size old) in
+      let behind = drop (to + count) marks in
+      let behind_bytes = drop ((to + count) * size) old in
+      let left : length (drop from marks) ≡ length marks - from = length-drop from marks in
+      let within : count ≤ length (drop from marks) = omega (arith, left, range) in
+      let some = take count (drop from marks) in
+      let some_bytes = take (count * size) (drop (from * size) old) in
+      let rest_whole = drop_whole from size marks old (omega (arith, range)) whole in
+      rw (put, set, past)
+      (flat_append size (take to marks) (some ++ behind) (take (to * size) old) (some_bytes ++ behind_bytes)
+      (take_whole to size marks old (omega (arith, range, low)) whole)
+      ∙ ap (λ (l : List Block). l ++ marked_as (some ++ behind) (cut (length (some ++ behind)) size (some_bytes ++ behind_bytes)))
+      (flat_take to size marks old (omega (arith, range, low)))
+      ∙ ap (λ (l : List Block). take to all ++ l)
+      (flat_append size some behind some_bytes behind_bytes (take_whole count size (drop from marks) (drop (from * size) old) within rest_whole)
+      ∙ ap (λ (l : List Block). l ++ marked_as behind (cut (length behind) size behind_bytes))
+      (flat_take count size (drop from marks) (drop (from * size) old) within ∙ ap (take count) (flat_drop from size marks old (omega (arith, range))))
+      ∙ ap (λ (l : List Block). take count (drop from all) ++ l) (flat_drop (to + count) size marks old (omega (arith, range, low)))))
+
+  as_many : length others ≡ length marks
+  as_many = ap length set ∙ length_copied from to count marks range low
+
+  pub copied_whole : length new ≡ length others * size
+  copied_whole =
+      let span = span_within (length marks) size from count range in
+      let before = span_within from size to count low in
+      ap length put
+      ∙ length_copied (from * size) (to * size) (count * size) old (omega (arith, span, whole)) before
+      ∙ whole
+      ∙ ap (λ (k : ℕ). k * size) (sym as_many)
+
+  pub copied_none : marks ≡ replicate (length marks) false → others ≡ replicate (length others) false
+  copied_none none =
+      let n = length marks in
+      let first : take to (replicate n false) ≡ replicate to false = take-replicate to n false (omega (arith, range, low)) in
+      let few : take count (drop from (replicate n false)) ≡ replicate count false =
+      ap (take count) (drop-replicate from n false) ∙ take-replicate count (n - from) false (omega (arith, range)) in
+      let rest : drop (to + count) (replicate n false) ≡ replicate (n - (to + count)) false = drop-replicate (to + count) n false in
+      let sum : to + (count + (n - (to + count))) ≡ n = omega (arith, range, low) in
+      set
+      ∙ ap (copied from to count) none
+      ∙ ap (λ (l : List Bool). l ++ (take count (drop from (replicate n false)) ++ drop (to + count) (replicate n false))) first
+      ∙ ap (λ (l : List Bool). replicate to false ++ (l ++ drop (to + count) (replicate n false))) few
+      ∙ ap (λ (l : List Bool). replicate to false ++ (replicate count false ++ l)) rest
+      ∙ ap (λ (l : List Bool). replicate to false ++ l) (replicate-append-replicate count (n - (to + count)) false)
+      ∙ replicate-append-replicate to (count + (n - (to + count))) false
+      ∙ ap (λ (k : ℕ). replicate k false) (sum ∙ sym as_many)

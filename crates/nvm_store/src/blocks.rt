@@ -1,11 +1,10 @@
-ghost use Rattle.std.specs.Prelude.{◌≡◌, ◌+◌, ◌*◌, ◌++◌, ◌<◌, ◌≤◌, IfNone, IfOk, IfSome, IsOk, OnErr, OnOk, false, length, replicate, true};
-ghost use Rattle.std.specs.Str.{bytes_eq};
+ghost use Rattle.std.specs.Prelude.{◌≡◌, ◌+◌, ◌*◌, ◌<◌, ◌≤◌, IfOk, IsOk, OnErr, OnOk, length, replicate, true};
 ghost use Rattle.nvm_record.specs.PayloadRef.{lent_bytes};
 ghost use Rattle.nvm_record.specs.declared.block.Block.TheVariants.{Uncorrectable};
-ghost use Rattle.nvm_record.specs.Medium as medium;
 ghost use Rattle.nvm_record.specs.Step.{block_at};
 ghost use Rattle.nvm_store.specs.Inside.Memory.{AreFew, FitsSize, listed, is_own};
-ghost use Rattle.nvm_store.specs.Inside.Rewrite.{IsRewritten, stretch_of, zero_block};
+ghost use Rattle.nvm_store.specs.Inside.Rewrite.{IsRewritten, zero_block};
+ghost use Rattle.nvm_store.specs.Inside.Source.{HasBlocks, HasSize, source_block};
 
 mod content;
 mod flat_blocks;
@@ -169,10 +168,9 @@ impl Blocks {
         match &mut self.memory {
             Memory::Shared(blocks) => blocks.write(alloc, at, count, self.size, payload),
             Memory::Zeroes(all) => {
-                let size = self.size;
+                let (all, size) = (*all, self.size);
                 let source = Source::Data { size, payload };
-                self.memory = made(alloc, *all, size, at, count, &source)?;
-                Ok(())
+                begin(&mut self.memory, alloc, all, size, at, count, &source)
             }
             Memory::Flat(blocks) => {
                 blocks.put(at, count, payload.as_slice());
@@ -221,8 +219,8 @@ impl Blocks {
         match &mut self.memory {
             Memory::Shared(blocks) => blocks.mark(alloc, at, count),
             Memory::Zeroes(all) => {
-                self.memory = made(alloc, *all, self.size, at, count, &Source::Marks)?;
-                Ok(())
+                let (all, size) = (*all, self.size);
+                begin(&mut self.memory, alloc, all, size, at, count, &Source::Marks)
             }
             Memory::Flat(blocks) => {
                 blocks.mark(at, count);
@@ -233,30 +231,34 @@ impl Blocks {
     }
 }
 
-/// Memory for `all` blocks of `size` zero bytes, of which the `count` from place `at` become the source's.
+/// Gives `all` blocks of `size` zero bytes, which had no memory, memory of their own, in which the `count` from place `at` are the source's.
 #[inline(never)]
-fn made(
+fn begin(
+    memory: &mut Memory,
     alloc: Global,
     all: usize,
     size: usize,
     at: usize,
     count: usize,
     source: &Source<'_>,
-) -> Result<Memory, NoMemory>
+) -> Result<(), NoMemory>
     requires few { AreFew size all }
     requires range { at + count ≤ all }
     requires source { HasBlocks source.now count }
     requires size { HasSize source.now size }
-    ensures fits { IfOk result (FitsSize size) }
-    ensures own { IfOk result (λ memory. is_own memory ≡ true) }
-    ensures list { IfOk result (λ memory. IsRewritten at count (source_block source.now) (replicate all (zero_block size)) (listed size memory)) }
+    ensures fits { OnOk result (FitsSize size memory.new) }
+    ensures own { OnOk result (is_own memory.new ≡ true) }
+    ensures ok { OnOk result (IsRewritten at count (source_block source.now) (replicate all (zero_block size)) (listed size memory.new)) }
+    ensures err { OnErr result (memory.new ≡ memory.old) }
 {
     if all * size <= MOST_FLAT_BYTES {
         let mut blocks = FlatBlocks::zeroed(alloc, all, size)?;
         blocks.fill(at, count, 0, source);
-        return Ok(Memory::Flat(blocks));
+        *memory = Memory::Flat(blocks);
+    } else {
+        let mut blocks = PagedBlocks::zeroed(alloc, all, size)?;
+        blocks.put(at, count, source)?;
+        *memory = Memory::Paged(blocks);
     }
-    let mut blocks = PagedBlocks::zeroed(alloc, all, size)?;
-    blocks.put(at, count, source)?;
-    Ok(Memory::Paged(blocks))
+    Ok(())
 }

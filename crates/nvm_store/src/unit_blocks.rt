@@ -1,4 +1,4 @@
-ghost use Rattle.std.specs.Prelude.{◌≡◌, ◌↔◌, ◌+◌, ◌*◌, ◌^◌, ◌<◌, ◌≤◌, IfOk, IsTrue, OnErr, OnOk, length, true};
+ghost use Rattle.std.specs.Prelude.{◌≡◌, ◌↔◌, ◌+◌, ◌*◌, ◌^◌, ◌<◌, ◌≤◌, IfOk, IsOk, IsTrue, OnErr, OnOk, length, true};
 ghost use Rattle.nvm_record.specs.Medium.{Medium, zero_medium};
 ghost use Rattle.nvm_record.specs.Step.{medium_after};
 ghost use Rattle.nvm_record.specs.PayloadRef.{lent_bytes};

@@ -96,7 +96,8 @@ impl FlatBlocks {
         ensures err { OnErr result (self.new.list ≡ self.old.list) }
     {
         // With room for the marks first, all stays as it was where there is no memory.
-        self.reserve(more)?;
+        self.marks.reserve(more)?;
+        make_room(&mut self.bytes, more * self.size)?;
         let count = self.marks.len() + more;
         self.bytes.resize(count * self.size, 0)?;
         self.marks.resize(count, false)
@@ -109,12 +110,13 @@ impl FlatBlocks {
         ensures size { self.new.size ≡ self.old.size }
         ensures list { self.new.list ≡ take to self.old.list ++ (stretch_of from count self.old.list ++ drop (to + count) self.old.list) }
     {
-        let (front, back) = self.bytes.split_at_mut(from * self.size);
-        let len = count * self.size;
-        let first = to * self.size;
-        front[first..first + len].copy_from_slice(&back[..len]);
-        let (front, back) = self.marks.split_at_mut(from);
-        front[to..to + count].copy_from_slice(&back[..count]);
+        copy_down(
+            &mut self.bytes,
+            from * self.size,
+            to * self.size,
+            count * self.size,
+        );
+        copy_down(&mut self.marks, from, to, count);
     }
 
     /// Keeps the first `count` blocks alone. Where that leaves half of the memory or less, the rest is given back.
@@ -246,4 +248,14 @@ fn set_marks(marks: &mut Vec<bool>, at: usize, count: usize, mark: bool)
     ensures { marks.new.items ≡ take at marks.old.items ++ (replicate count mark ++ drop (at + count) marks.old.items) }
 {
     marks[at..at + count].fill(mark);
+}
+
+/// Puts the `count` items from place `from` over those from place `to`, which is before them.
+fn copy_down<T: Copy>(items: &mut Vec<T>, from: usize, to: usize, count: usize)
+    requires range { from + count ≤ length items.old.items }
+    requires before { to + count ≤ from }
+    ensures { items.new.items ≡ take to items.old.items ++ (take count (drop from items.old.items) ++ drop (to + count) items.old.items) }
+{
+    let (front, back) = items.split_at_mut(from);
+    front[to..to + count].copy_from_slice(&back[..count]);
 }

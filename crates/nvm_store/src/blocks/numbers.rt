@@ -80,10 +80,12 @@ impl Numbers {
         requires { to ≤ length self.old }
         ensures { self.new ≡ self.old }
     {
-        for at in from / ROW..(to + ROW - 1) / ROW {
-            own_row(&mut self.top, &mut self.rows, at)?;
-        }
-        Ok(())
+        make_rows(
+            &mut self.top,
+            &mut self.rows,
+            from / ROW,
+            (to + ROW - 1) / ROW,
+        )
     }
 
     /// The same numbers in memory of their own.
@@ -113,4 +115,22 @@ fn own_row(top: &mut Vec<u32>, rows: &mut Vec<u32>, at: usize) -> Result<usize, 
     rows.resize((row + 1) * ROW, 0)?;
     top[at] = row as u32;
     Ok(row)
+}
+
+/// Makes the rows of 64 places from `from` up to `to`, each theirs alone.
+fn make_rows(
+    top: &mut Vec<u32>,
+    rows: &mut Vec<u32>,
+    from: usize,
+    to: usize,
+) -> Result<(), NoMemory>
+    requires sound { AreNumbers rows.old.items top.old.items }
+    requires to { to ≤ length top.old.items }
+    ensures sound { AreNumbers rows.new.items top.new.items }
+    ensures same { gathered 64 rows.new.items top.new.items ≡ gathered 64 rows.old.items top.old.items }
+{
+    for at in from..to {
+        own_row(top, rows, at)?;
+    }
+    Ok(())
 }

@@ -240,13 +240,7 @@ fn clear(numbers: &mut PageNumbers, pages: &mut FlatBlocks, at: usize, count: us
 }
 
 /// The `count` blocks from place `at` become the source's. They have pages of their own, or are to be zeroes, as those without one are already.
-fn fill(
-    numbers: &PageNumbers,
-    pages: &mut FlatBlocks,
-    at: usize,
-    count: usize,
-    source: &Source<'_>,
-)
+fn fill(numbers: &PageNumbers, pages: &mut FlatBlocks, at: usize, count: usize, source: &Source<'_>)
     requires sound { ArePages pages.old numbers.now }
     requires range { at + count ≤ length numbers.now * 8 }
     requires source { HasBlocks source.now count }

@@ -27,7 +27,7 @@ loop-run-preserved c =
       lowest = rw c.in-Some.is at c.lowest_cut.ensures.lowest;
     } in
     let zeroed : IsRewritten at run.blocks (λ _. zero_block before.size) before.list after.list =
-    not_refused c.zero.result (c.zero.ensures.never c.loop-run.invariant.own) c.zero.ensures.ok in
+    c.in_ok-zero.ensures.ok in
     let len : length after.list ≡ length before.list = zeroed.len in
     let size : before.size ≡ old.size = ap (λ (p : Place). p.size) c.loop-run.invariant.place in
     let past : run.first + c.from.result ≡ run.first + run.blocks = omega (arith, c.from.ensures) in
@@ -37,7 +37,7 @@ loop-run-preserved c =
     let below : run.first + run.blocks ≤ from + left = is.among.2 in
     let here : start + at ≡ run.first = omega arith in
     record {
-      own = c.zero.ensures.own ∙ c.loop-run.invariant.own;
+      own = λ own. c.zero.ensures.own ∙ c.loop-run.invariant.own own;
       sound =
           rw c.zero.ensures.size
           (sound_after c.zero.result start before.size at run.blocks (λ _. zero_block before.size) before.list after.list

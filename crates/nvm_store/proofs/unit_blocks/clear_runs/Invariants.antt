@@ -10,7 +10,7 @@ use Rattle.nvm_store.proofs.unit_blocks.clear_runs.Given as goal
 -- Below `from` all is cleared that is to be, and from there on nothing.
 abbrev pub invariant-loop-run : goal.invariant-loop-run
 invariant-loop-run l = record {
-  own : l.blocks.own ≡ true;
+  own : l.fn.blocks.own ≡ true → l.blocks.own ≡ true;
   sound : AreSound l.start l.blocks.size l.blocks.list;
   place : StaysInPlace (unit_from l.start l.fn.blocks) (unit_from l.start l.blocks);
   low : l.first ≤ l.from;

@@ -23,7 +23,7 @@ returns-clause-ok c =
           let within = rw (length-replicate n (zero_block s)) at (rw w.in-Zeroes.is at (rw (← c.self.view_is) at c.requires)) in
           rw (w.result-is, w.self-inside-is) (rw (← c.self.view_is, w.in-Zeroes.is) (zero_still n s c.args.at c.args.count within))
       | in-Flat w ↦ rw (w.result-is, w.self-inside-is) (rw (← c.self.view_is, w.in-Flat.is)
-          (subst (λ (s : ℕ). IsRewritten c.args.at c.args.count (λ _. zero_block s) w.in-Flat.pages.list w.clear.new.self.list)
+          (subst (λ (s : ℕ). IsRewritten c.args.at c.args.count (λ _. zero_block s) w.in-Flat.blocks.list w.clear.new.self.list)
           (rw w.in-Flat.is at c.self.invariant).same w.clear.ensures.list))
       | in-Paged w ↦ rw (w.result-is, w.self-inside-is) (rw (← c.self.view_is, w.in-Paged.is)
           (subst (λ (s : ℕ). IsRewritten c.args.at c.args.count (λ _. zero_block s) w.in-Paged.blocks.list w.zero-in-Paged.new.self.list)

@@ -1,10 +1,8 @@
-use Rattle.std.proofs.Common.{◌≡◌, ◌⊎◌, ℕ, ◌+◌, ◌-◌, ◌*◌, ◌/◌, ◌%◌, ◌<◌, ◌≤◌, List, length, inl, inr, refl, ap, sym, ◌∙◌, subst, arith}
+use Rattle.std.proofs.Common.{◌≡◌, ℕ, ◌+◌, ◌*◌, ◌/◌, ◌%◌, ◌<◌, ◌≤◌, inl, inr, refl, ap, sym, ◌∙◌, subst, arith}
 use Rattle.nvm_record.specs.declared.block.Block.{Block}
 use Rattle.nvm_record.specs.Lists.{IsAt}
 use Rattle.nvm_store.specs.Inside.Gathered.{gathered}
-use Rattle.nvm_store.specs.Inside.Flat.{SizedBlocks}
-use Rattle.nvm_store.specs.Inside.Pages.{ArePages}
-use Rattle.nvm_store.specs.Inside.Rewrite.{IsRewritten, zero_block}
+use Rattle.nvm_store.specs.Inside.Rewrite.{zero_block}
 use Rattle.nvm_store.specs.Inside.Source.{source_block, AreZeroes, HasSize}
 use Rattle.nvm_store.specs.declared.blocks.source.Source.{Source}
 use Rattle.nvm_store.specs.declared.blocks.source.Source.TheVariants.{Data, Zeroes, Marks}

@@ -1,6 +1,8 @@
-use Rattle.std.proofs.Common.{◌≡◌, ◌+◌, ◌-◌, ◌≤◌, [], sym, ◌∙◌, arith, rules}
+use Rattle.std.proofs.Common.{◌≡◌, ◌+◌, ◌-◌, ◌≤◌, [], ap, sym, ◌∙◌, subst, arith, rules}
 use Rattle.std.proofs.lemmas.Result.{on_ok_weaker}
 use Rattle.nvm_record.specs.Ranges.{cut_ranges, ranges_of}
+use Rattle.nvm_store.specs.Contents.{Holds}
+use Rattle.nvm_store.specs.Inside.Memory.{InMemory, unit_from}
 use Rattle.nvm_store.proofs.Cuts.{IsLowest, swept, swept_none, swept_more, swept_all}
 use Rattle.nvm_store.proofs.unit_blocks.UnitBlocks.deallocate.Goals as goal
 
@@ -40,6 +42,16 @@ returns-then-is_none-clause-step c =
     c.zero.ensures.step
 
 pub returns-then-is_own-clause-step : goal.returns-then-is_own-clause-step
-returns-then-is_own-clause-step c m held i block there =
+returns-then-is_own-clause-step c =
+    on_ok_weaker c.clear_runs.result
+    (λ step m held i block there.
     let held' = rw (← c.self.view_is) at held in
-    rw (← c.self.view_is, ← c.self.invariant.same) (c.clear_runs.ensures.step m held' i block there)
+    rw (← c.self.view_is, ← c.self.invariant.same) (step m held' i block there))
+    c.clear_runs.ensures.step
+
+pub returns-clause-step : goal.returns-clause-step
+returns-clause-step c m held i block there =
+    let held' = rw (← c.self.view_is) at held in
+    let before = subst (λ (b : InMemory). Holds (unit_from c.self.inside.first b) m) (sym c.in_ok-after.ensures) held' in
+    let size = ap (λ (b : InMemory). b.size) c.in_ok-after.ensures in
+    rw (← c.self.view_is, ← c.self.invariant.same, ← size) (c.in_ok-clear_runs.ensures.step m before i block there)

@@ -1,14 +1,15 @@
-use Rattle.std.proofs.Common.{ℕ, ◌+◌, ◌*◌, ◌/◌, ◌%◌, ◌<◌, length, ap, sym, ◌∙◌, subst, arith}
-use Rattle.std.proofs.Math.ListN.{set}
+use Rattle.std.proofs.Common.{ℕ, ◌/◌, ◌%◌, sym, subst, arith}
 use Rattle.nvm_record.specs.Lists.{IsAt}
-use Rattle.nvm_store.specs.Inside.Gathered.{gathered}
 use Rattle.nvm_store.proofs.AtLemmas.{at_read}
-use Rattle.nvm_store.proofs.Gathering.{all_there, cleared, place_of_row}
+use Rattle.nvm_store.proofs.Gathering.{all_there, place_of_row}
+use Rattle.nvm_store.proofs.Numbering.{renumbered}
 use Rattle.nvm_store.proofs.blocks.numbers.Numbers.set.Goals as goal
 
 pub index-requires : goal.index-requires
 index-requires c =
-    let lies = place_of_row 64 0 c.self.inside.rows.items c.self.inside.top.items c.args.place c.self.invariant.gathered (rw (← c.self.view_is) at c.requires) in
+    let top = c.self.inside.top.items in
+    let rows = c.self.inside.rows.items in
+    let lies = place_of_row 64 0 rows top c.args.place c.self.invariant.gathered (rw (← c.self.view_is) at c.requires.place) in
     rw c.self.inside.top.ok.0 lies.part
 
 pub index_mut-requires : goal.index_mut-requires
@@ -17,7 +18,7 @@ index_mut-requires c =
     let rows = c.self.inside.rows.items in
     let row = c.index.result.now in
     let sound = c.self.invariant.gathered in
-    let lies = place_of_row 64 0 rows top c.args.place sound (rw (← c.self.view_is) at c.requires) in
+    let lies = place_of_row 64 0 rows top c.args.place sound (rw (← c.self.view_is) at c.requires.place) in
     let at = subst (λ (n : ℕ). IsAt top (c.args.place / 64) n) (sym c.index.ensures) (at_read top (c.args.place / 64) row lies.part) in
     let far = all_there 64 0 rows top sound (c.args.place / 64) row at in
     let within = lies.within in
@@ -29,10 +30,12 @@ invariant_of-self c =
     let rows = c.self.inside.rows.items in
     let row = c.index.result.now in
     let sound = c.self.invariant.gathered in
-    let lies = place_of_row 64 0 rows top c.args.place sound (rw (← c.self.view_is) at c.requires) in
+    let lies = place_of_row 64 0 rows top c.args.place sound (rw (← c.self.view_is) at c.requires.place) in
     let at = subst (λ (n : ℕ). IsAt top (c.args.place / 64) n) (sym c.index.ensures) (at_read top (c.args.place / 64) row lies.part) in
     record {
-      gathered = (cleared 64 0 rows top (c.args.place / 64) row (c.args.place % 64) sound at lies.within).sound;
+      gathered =
+          (renumbered rows top (c.args.place / 64) row (c.args.place % 64) c.args.place c.args.number sound at lies.within lies.is
+          (rw (← c.self.view_is) at c.requires.own)).sound;
       few = c.self.invariant.few;
     }
 
@@ -42,8 +45,8 @@ returns c =
     let rows = c.self.inside.rows.items in
     let row = c.index.result.now in
     let sound = c.self.invariant.gathered in
-    let lies = place_of_row 64 0 rows top c.args.place sound (rw (← c.self.view_is) at c.requires) in
+    let lies = place_of_row 64 0 rows top c.args.place sound (rw (← c.self.view_is) at c.requires.place) in
     let at = subst (λ (n : ℕ). IsAt top (c.args.place / 64) n) (sym c.index.ensures) (at_read top (c.args.place / 64) row lies.part) in
     rw (← c.self.view_is)
-    ((cleared 64 0 rows top (c.args.place / 64) row (c.args.place % 64) sound at lies.within).is
-    ∙ ap (λ (p : ℕ). set (gathered 64 rows top) p 0) (sym lies.is))
+    (renumbered rows top (c.args.place / 64) row (c.args.place % 64) c.args.place c.args.number sound at lies.within lies.is
+    (rw (← c.self.view_is) at c.requires.own)).is
