@@ -4,11 +4,11 @@ use mathlib.Core.Option.{some-injective, some-ne-none}
 use Rattle.std.proofs.Math.ListN.{set}
 use Rattle.std.proofs.Math.Seq.{drop-append-add}
 use Rattle.std.proofs.lemmas.Bool.Decides.{leb_tells}
-use Rattle.std.proofs.lemmas.List.{drop-append-le, drop-drop, drop-take, length-append, length-drop, length-replicate, length-set, length-take-le, replicate-append-replicate, take-append-le, take-take, take_all}
+use Rattle.std.proofs.lemmas.List.{drop-append-le, length-append, length-drop, length-replicate, length-set, length-take-le, replicate-append-replicate, take-append-le, take_all}
 use Rattle.nvm_record.specs.declared.block.Block.{Block}
 use Rattle.nvm_record.specs.Lists.{IsAt}
 use Rattle.nvm_store.specs.Inside.Gathered.{row_of, gathered, named, IsGathered}
-use Rattle.nvm_store.specs.Inside.Rewrite.{IsRewritten, stretch_of}
+use Rattle.nvm_store.specs.Inside.Rewrite.{IsRewritten}
 use Rattle.nvm_store.proofs.Parts.{LiesIn, lies_in}
 use Rattle.nvm_store.proofs.Rewrites.{at_append, at_append_left, at_append_right, at_below, at_set_other, at_set_same, at_take, at_take_back}
 

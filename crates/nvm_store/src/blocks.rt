@@ -232,6 +232,7 @@ impl Blocks {
 }
 
 /// Gives `all` blocks of `size` zero bytes, which had no memory, memory of their own, in which the `count` from place `at` are the source's.
+#[cold]
 #[inline(never)]
 fn begin(
     memory: &mut Memory,

@@ -119,6 +119,7 @@ impl PagedBlocks {
     }
 
     /// The `count` blocks from place `at` become the source's, in pages of their own. These are made first, and the rest isn't refused.
+    #[cold]
     #[inline(never)]
     pub fn put(&mut self, at: usize, count: usize, source: &Source<'_>) -> Result<(), NoMemory>
         requires range { at + count ≤ length self.old.list }

@@ -5,7 +5,7 @@ use Rattle.nvm_store.specs.declared.place.Place.{Place}
 use Rattle.nvm_store.specs.Inside.Rewrite.{IsRewritten, zero_block}
 use Rattle.nvm_store.specs.Operation.{zeroes_operation}
 use Rattle.nvm_store.proofs.Cuts.{IsLowest, swept, swept_more, swept_all}
-use Rattle.nvm_store.proofs.Ranges.{sound_after, held-rewritten, not_refused}
+use Rattle.nvm_store.proofs.Ranges.{sound_after, held-rewritten}
 use Rattle.nvm_store.proofs.unit_blocks.clear_runs.Goals as goal
 
 pub loop-run-preserved : goal.loop-run-preserved

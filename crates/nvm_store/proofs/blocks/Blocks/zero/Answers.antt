@@ -1,4 +1,4 @@
-use Rattle.std.proofs.Common.{◌≡◌, ℕ, ◌+◌, ◌≤◌, length, ◌∙◌, subst}
+use Rattle.std.proofs.Common.{ℕ, ◌∙◌, subst}
 use Rattle.std.proofs.lemmas.List.{length-replicate}
 use Rattle.nvm_store.specs.Inside.Memory.{listed}
 use Rattle.nvm_store.specs.Inside.Rewrite.{IsRewritten, zero_block}

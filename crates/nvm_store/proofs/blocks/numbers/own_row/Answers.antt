@@ -1,8 +1,7 @@
-use Rattle.std.proofs.Common.{◌≡◌, ℕ, zero, suc, ◌+◌, ◌-◌, ◌*◌, ◌/◌, ◌<◌, ◌≤◌, List, ◌++◌, length, replicate, take, refl, ap, sym, ◌∙◌, subst, arith}
-use Rattle.std.proofs.Math.ListN.{set}
+use Rattle.std.proofs.Common.{◌≡◌, ℕ, suc, ◌+◌, ◌-◌, ◌*◌, ◌/◌, List, ◌++◌, length, replicate, take, refl, sym, ◌∙◌, subst, arith}
 use Rattle.std.proofs.lemmas.List.{length-set, take_all}
 use Rattle.nvm_record.specs.Lists.{IsAt}
-use Rattle.nvm_store.specs.Inside.Gathered.{gathered, named, IsGathered}
+use Rattle.nvm_store.specs.Inside.Gathered.{named, IsGathered}
 use Rattle.nvm_store.proofs.AtLemmas.{at_read}
 use Rattle.nvm_store.proofs.Gathering.{grown, grown_same, named_lt}
 use Rattle.nvm_store.proofs.Rewrites.{at_set_same}

@@ -1,6 +1,5 @@
-use Rattle.std.proofs.Common.{◌≡◌, ℕ, List, ◌+◌, ◌*◌, ◌/◌, ◌<◌, length, replicate, ap, sym, ◌∙◌, arith}
+use Rattle.std.proofs.Common.{ℕ, ◌+◌, ◌*◌, ◌/◌, replicate, ap, sym, arith}
 use Rattle.std.proofs.lemmas.List.{length-replicate}
-use Rattle.nvm_store.specs.Inside.Gathered.{gathered}
 use Rattle.nvm_store.proofs.Gathering.{first_is_gathered, gathered_first}
 use Rattle.nvm_store.proofs.blocks.numbers.Numbers.zeroed.Goals as goal
 

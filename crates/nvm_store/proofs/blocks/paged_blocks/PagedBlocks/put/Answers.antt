@@ -1,4 +1,4 @@
-use Rattle.std.proofs.Common.{◌+◌, ◌*◌, ◌<◌, ◌≤◌, List, sym, subst, arith}
+use Rattle.std.proofs.Common.{List, subst, arith}
 use Rattle.nvm_record.specs.declared.block.Block.{Block}
 use Rattle.nvm_store.specs.Inside.Gathered.{gathered}
 use Rattle.nvm_store.specs.Inside.Rewrite.{IsRewritten}

@@ -1,9 +1,6 @@
-use Rattle.std.proofs.Common.{◌≡◌, ℕ, ◌+◌, ◌*◌, ◌/◌, ◌≤◌, List, length, replicate, ap, ◌∙◌, arith}
-use Rattle.std.proofs.lemmas.List.{length-replicate, take-replicate}
-use Rattle.nvm_record.specs.declared.block.Block.{Block}
-use Rattle.nvm_store.specs.Inside.Gathered.{gathered, IsGathered}
-use Rattle.nvm_store.specs.Inside.Flat.{SizedBlocks}
-use Rattle.nvm_store.specs.Inside.Pages.{ArePagedBlocks}
+use Rattle.std.proofs.Common.{ℕ, ◌*◌, length, replicate, arith}
+use Rattle.std.proofs.lemmas.List.{take-replicate}
+use Rattle.nvm_store.specs.Inside.Gathered.{IsGathered}
 use Rattle.nvm_store.specs.Inside.Rewrite.{zero_block}
 use Rattle.nvm_store.proofs.Gathering.{first_is_gathered, gathered_first}
 use Rattle.nvm_store.proofs.blocks.paged_blocks.PagedBlocks.zeroed.Goals as goal
