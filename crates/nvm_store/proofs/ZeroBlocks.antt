@@ -4,7 +4,7 @@ use Rattle.std.proofs.lemmas.Bool.{true≢false}
 use Rattle.std.proofs.lemmas.List.{length-replicate}
 use Rattle.nvm_record.specs.declared.block.Block.{Block}
 use Rattle.nvm_record.specs.Medium.{has_mark, joined}
-use Rattle.nvm_store.specs.Inside.Memory.{AreFew, FitsSize, is_own, listed}
+use Rattle.nvm_store.specs.Inside.Memory.{AreBounded, FitsSize, is_own, listed}
 use Rattle.nvm_store.specs.Inside.Rewrite.{IsRewritten, stretch_of, zero_block}
 use Rattle.nvm_store.specs.declared.blocks.Memory.{Memory}
 use Rattle.nvm_store.specs.declared.blocks.Memory.TheVariants.{Shared, Zeroes, Flat, Paged}
@@ -39,7 +39,7 @@ all_zero at n s old within same =
     (rewritten_all n (λ _. zero_block s) old (replicate n (zero_block s)) few (sym same) (λ i lt. at_replicate n (zero_block s) i lt))
 
 -- Blocks in memory that is theirs alone are few.
-pub few_own : (size : ℕ) (memory : Memory) → FitsSize size memory → is_own memory ≡ true → AreFew size (length (listed size memory))
+pub few_own : (size : ℕ) (memory : Memory) → FitsSize size memory → is_own memory ≡ true → AreBounded size (length (listed size memory))
 few_own size (Shared blocks) fits own = absurd (true≢false (sym own))
 few_own size (Zeroes count) fits own = rw (length-replicate count (zero_block size)) fits
 few_own size (Flat pages) fits own = fits.few

@@ -2,7 +2,7 @@ ghost use Rattle.std.specs.Prelude.{◌≡◌, ◌+◌, ◌*◌, ◌<◌, ◌≤
 ghost use Rattle.nvm_record.specs.PayloadRef.{lent_bytes};
 ghost use Rattle.nvm_record.specs.declared.block.Block.TheVariants.{Uncorrectable};
 ghost use Rattle.nvm_record.specs.Step.{block_at};
-ghost use Rattle.nvm_store.specs.Inside.Memory.{AreFew, FitsSize, listed, is_own};
+ghost use Rattle.nvm_store.specs.Inside.Memory.{AreBounded, FitsSize, listed, is_own};
 ghost use Rattle.nvm_store.specs.Inside.Rewrite.{IsRewritten, zero_block};
 ghost use Rattle.nvm_store.specs.Inside.Source.{HasBlocks, HasSize, source_block};
 
@@ -32,9 +32,9 @@ use std::fmt::{Debug, Formatter, Write};
 use std::marker::Model;
 
 /// The most bytes of a unit whose blocks are in one piece of memory.
-pub const MOST_FLAT_BYTES: usize = 65_536;
+const MOST_FLAT_BYTES: usize = 65_536;
 /// The most bytes of a block that is in a page: eight of them are 4 KiB.
-pub const MOST_IN_PAGE: usize = 512;
+const MOST_IN_PAGE: usize = 512;
 
 /// The blocks of one unit. Contracts see the size of each in bytes, their list, and whether they are in memory that is theirs alone. After an `Err` all
 /// blocks are as they were.
@@ -95,7 +95,7 @@ impl Blocks {
     /// The same, to be changed in place. They take no memory until the first of them is written or marked, and then are in one piece if they have at most
     /// `MOST_FLAT_BYTES`, and else in pages; but blocks of more than `MOST_IN_PAGE` bytes are in a tree then.
     pub fn own(alloc: Global, count: usize, size: usize) -> Result<Blocks, NoMemory>
-        requires { AreFew size count }
+        requires { AreBounded size count }
         ensures size { IfOk result (λ blocks. blocks.size ≡ size) }
         ensures list { IfOk result (λ blocks. blocks.list ≡ replicate count (zero_block size)) }
     {
@@ -180,7 +180,8 @@ impl Blocks {
         }
     }
 
-    /// The `count` blocks from place `at` become zero bytes. Where they are all, memory that is theirs alone is given back.
+    /// The `count` blocks from place `at` become zero bytes. Memory that is theirs alone is given back: all of it where they are all or no page is left,
+    /// and that of each page that they fill.
     pub fn zero(&mut self, alloc: Global, at: usize, count: usize) -> Result<(), NoMemory>
         requires { at + count ≤ length self.old.list }
         ensures size { self.new.size ≡ self.old.size }
@@ -203,6 +204,9 @@ impl Blocks {
             }
             Memory::Paged(blocks) => {
                 blocks.zero(at, count);
+                if blocks.has_no_page() {
+                    self.memory = Memory::Zeroes(blocks.len());
+                }
                 Ok(())
             }
         }
@@ -243,7 +247,7 @@ fn begin(
     count: usize,
     source: &Source<'_>,
 ) -> Result<(), NoMemory>
-    requires few { AreFew size all }
+    requires few { AreBounded size all }
     requires range { at + count ≤ all }
     requires source { HasBlocks source.now count }
     requires size { HasSize source.now size }

@@ -1,5 +1,5 @@
 -- Rows of one width that lie in any order, gathered by their numbers.
-use Rattle.std.specs.Prelude.{◌≡◌, ◌⊎◌, ℕ, zero, suc, ◌*◌, ◌^◌, ◌<◌, ◌≤◌, List, [], ◌∷◌, ◌++◌, length, take, drop, replicate}
+use Rattle.std.specs.Prelude.{◌≡◌, ◌⊎◌, ℕ, zero, suc, ◌*◌, ◌/◌, ◌^◌, ◌<◌, ◌≤◌, List, [], ◌∷◌, ◌++◌, length, take, drop, replicate}
 use Rattle.nvm_record.specs.Lists.{IsAt}
 
 -- the row of a number
@@ -25,7 +25,13 @@ pub record IsGathered {A : Type 0} (width : ℕ) (thing : A) (rows : List A) (nu
   pub within : (i n : ℕ) → IsAt numbers i n → n ≤ named numbers
   pub once : (i j n : ℕ) → IsAt numbers i n → IsAt numbers j n → (n ≡ 0) ⊎ (i ≡ j)
 
--- Numbers by rows of 64 of them: the rows' own numbers fit in 32 bits.
+-- the numbers of the rows of 64 that start at these offsets
+abbrev pub rows_at : List ℕ → List ℕ
+rows_at [] = []
+rows_at (offset ∷ offsets) = offset / 64 ∷ rows_at offsets
+
+-- Numbers by rows of 64 of them, which start at these offsets: the offsets fit in 32 bits.
 pub record AreNumbers (rows top : List ℕ) : Type 0 where
-  pub gathered : IsGathered 64 0 rows top
-  pub few : length top < 2 ^ 32
+  pub gathered : IsGathered 64 0 rows (rows_at top)
+  pub few : length top * 64 < 2 ^ 32
+  pub whole : (i offset : ℕ) → IsAt top i offset → offset ≡ offset / 64 * 64

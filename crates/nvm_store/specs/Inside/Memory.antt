@@ -18,31 +18,31 @@ pub record InMemory : Type 0 where
 abbrev pub listed : ℕ → Memory → List Block
 listed size (Shared blocks) = blocks
 listed size (Zeroes count) = replicate count (zero_block size)
-listed size (Flat pages) = pages.list
+listed size (Flat blocks) = blocks.list
 listed size (Paged blocks) = blocks.list
 
 -- whether the memory is theirs alone
 abbrev pub is_own : Memory → Bool
 is_own (Shared blocks) = false
 is_own (Zeroes count) = true
-is_own (Flat pages) = true
+is_own (Flat blocks) = true
 is_own (Paged blocks) = true
 
 -- There are few enough, and none is large.
-pub record AreFew (size count : ℕ) : Type 0 where
+pub record AreBounded (size count : ℕ) : Type 0 where
   pub few : count < 2 ^ 32
   pub small : size ≤ 65536
 
 -- They have this size, and are few.
 pub record AreFewOfSize (size : ℕ) (blocks : SizedBlocks) : Type 0 where
   pub same : blocks.size ≡ size
-  pub few : AreFew size (length blocks.list)
+  pub few : AreBounded size (length blocks.list)
 
 -- Memory that is theirs alone is of few blocks of this size.
 abbrev pub FitsSize : ℕ → Memory → Type 0
 FitsSize size (Shared blocks) = Unit {0}
-FitsSize size (Zeroes count) = AreFew size count
-FitsSize size (Flat pages) = AreFewOfSize size pages
+FitsSize size (Zeroes count) = AreBounded size count
+FitsSize size (Flat blocks) = AreFewOfSize size blocks
 FitsSize size (Paged blocks) = AreFewOfSize size blocks
 
 -- A unit of this first LBA and block size has these blocks.

@@ -26,7 +26,7 @@ pub record ArePages (pages : SizedBlocks) (numbers : List ℕ) : Type 0 where
   pub few : length numbers < 2 ^ 32
   pub small : pages.size ≤ 65536
 
--- They have at least so many blocks.
+-- They have at least so many blocks, which are fewer than 2^32.
 pub record ArePagedBlocks (count : ℕ) (pages : SizedBlocks) (numbers : List ℕ) : Type 0 where
   pub paged : ArePages pages numbers
   pub enough : count ≤ length numbers * 8

@@ -1,4 +1,4 @@
-ghost use Rattle.std.specs.Prelude.{◌≡◌, ◌+◌, ◌++◌, ◌*◌, ◌^◌, ◌<◌, ◌≤◌, IfOk, OnErr, OnOk, drop, false, length, replicate, take};
+ghost use Rattle.std.specs.Prelude.{◌≡◌, ◌+◌, ◌++◌, ◌*◌, ◌^◌, ◌<◌, ◌≤◌, IfOk, OnErr, OnOk, drop, false, length, replicate, take, true};
 ghost use Rattle.nvm_record.specs.declared.block.Block.TheVariants.{Uncorrectable};
 ghost use Rattle.nvm_record.specs.Medium as medium;
 ghost use Rattle.nvm_record.specs.Step.{block_at};
@@ -19,7 +19,7 @@ pub struct FlatBlocks {
     bytes: Vec<u8>,
     /// For each block whether it is marked.
     marks: Vec<bool>,
-    /// Whether a block may be marked.
+    /// Whether a block may be marked, as one was once.
     marked: bool,
 }
 
@@ -119,7 +119,7 @@ impl FlatBlocks {
         copy_down(&mut self.marks, from, to, count);
     }
 
-    /// Keeps the first `count` blocks alone. Where that leaves half of the memory or less, the rest is given back.
+    /// Keeps the first `count` blocks alone. Where that leaves a quarter of the memory or less in use, the rest is given back.
     pub fn truncate(&mut self, count: usize)
         requires { count ≤ length self.old.list }
         ensures size { self.new.size ≡ self.old.size }
@@ -127,7 +127,7 @@ impl FlatBlocks {
     {
         self.bytes.truncate(count * self.size);
         self.marks.truncate(count);
-        if self.bytes.len() <= self.bytes.capacity() / 2 {
+        if self.bytes.len() <= self.bytes.capacity() / 4 {
             self.bytes.shrink_to_fit();
             self.marks.shrink_to_fit();
         }
@@ -190,6 +190,13 @@ impl FlatBlocks {
         }
     }
 
+    /// Whether a block may be marked. It takes a constant number of steps.
+    pub fn may_have_mark(&self) -> bool
+        ensures { result ≡ false → medium.has_mark self.now.list ≡ false }
+    {
+        self.marked
+    }
+
     /// Whether one of the `count` blocks from place `at` is marked.
     #[inline(always)]
     pub fn has_mark(&self, at: usize, count: usize) -> bool
@@ -197,6 +204,23 @@ impl FlatBlocks {
         ensures { result ≡ medium.has_mark (stretch_of at count self.now.list) }
     {
         self.marked && self.marks[at..at + count].contains(&true)
+    }
+
+    /// Whether one of the `count` blocks from place `at` is marked. Else their bytes are in the buffer, which has room for exactly these.
+    #[inline(always)]
+    pub fn read_into(&self, at: usize, count: usize, buffer: &mut [u8]) -> bool
+        requires range { at + count ≤ length self.now.list }
+        requires room { medium.has_mark (stretch_of at count self.now.list) ≡ false
+            → length buffer.old ≡ length (medium.joined (stretch_of at count self.now.list)) }
+        ensures marked { result ≡ medium.has_mark (stretch_of at count self.now.list) }
+        ensures read { result ≡ false → buffer.new ≡ medium.joined (stretch_of at count self.now.list) }
+        ensures left { result ≡ true → buffer.new ≡ buffer.old }
+    {
+        let marked = self.has_mark(at, count);
+        if !marked {
+            buffer.copy_from_slice(self.bytes(at, count));
+        }
+        marked
     }
 
     /// The bytes of the `count` blocks from place `at`, one block after the other, of which none is marked.

@@ -1,6 +1,6 @@
 ghost use Rattle.std.specs.Prelude.{◌≡◌, ◌⊎◌, ℕ, ◌+◌, ◌^◌, ◌<◌, ◌≤◌, IfOk, OnErr, OnOk, length, replicate, slice_set};
 ghost use Rattle.nvm_record.specs.Lists.{IsAt};
-ghost use Rattle.nvm_store.specs.Inside.Gathered.{gathered, AreNumbers};
+ghost use Rattle.nvm_store.specs.Inside.Gathered.{gathered, rows_at, AreNumbers};
 
 use nvm_record::NoMemory;
 use std::alloc::Global;
@@ -12,7 +12,7 @@ const ROW: usize = 64;
 /// A number for each of many places, which contracts see as their list. They are 0 at first, and only rows of 64 places of which one has another number take memory.
 #[derive(Drop)]
 pub struct Numbers {
-    /// Which row each 64 places have.
+    /// Where in `rows` the row of each 64 places starts.
     top: Vec<u32>,
     /// The rows, one after the other. Row 0 has zeroes alone, and many places may have it; each other row belongs to 64 places.
     rows: Vec<u32>,
@@ -20,11 +20,11 @@ pub struct Numbers {
 
 impl Model for Numbers {
     ghost use Rattle.std.specs.Prelude.{List, ℕ};
-    ghost use Rattle.nvm_store.specs.Inside.Gathered.{gathered, AreNumbers};
+    ghost use Rattle.nvm_store.specs.Inside.Gathered.{gathered, rows_at, AreNumbers};
 
     ghost Value = { List ℕ };
 
-    ghost view = { λ n. gathered 64 n.rows.items n.top.items };
+    ghost view = { λ n. gathered 64 n.rows.items (rows_at n.top.items) };
 
     ghost invariant = { λ n. AreNumbers n.rows.items n.top.items };
 }
@@ -32,7 +32,7 @@ impl Model for Numbers {
 impl Numbers {
     /// Zeroes for at least so many places.
     pub fn zeroed(alloc: Global, places: usize) -> Result<Numbers, NoMemory>
-        requires { places < 2 ^ 32 }
+        requires { places + 64 < 2 ^ 32 }
         ensures enough { IfOk result (λ numbers. places ≤ length numbers) }
         ensures few { IfOk result (λ numbers. length numbers ≤ places + 64) }
         ensures zeroes { IfOk result (λ numbers. numbers ≡ replicate (length numbers) 0) }
@@ -51,7 +51,7 @@ impl Numbers {
         ensures fits { result < 2 ^ 32 }
     {
         let row = self.top[place / ROW] as usize;
-        self.rows[row * ROW + place % ROW] as usize
+        self.rows[row + place % ROW] as usize
     }
 
     /// Gives a place this number. Where its row had zeroes alone, that takes the memory of a row.
@@ -61,7 +61,7 @@ impl Numbers {
         ensures err { OnErr result (self.new ≡ self.old) }
     {
         let row = own_row(&mut self.top, &mut self.rows, place / ROW)?;
-        self.rows[row * ROW + place % ROW] = number;
+        self.rows[row + place % ROW] = number;
         Ok(())
     }
 
@@ -72,7 +72,7 @@ impl Numbers {
         ensures { self.new ≡ slice_set self.old place number }
     {
         let row = self.top[place / ROW] as usize;
-        self.rows[row * ROW + place % ROW] = number;
+        self.rows[row + place % ROW] = number;
     }
 
     /// Makes the rows of the places from `from` up to `to`, so that giving them numbers takes no memory.
@@ -99,20 +99,20 @@ impl Numbers {
     }
 }
 
-/// The row of 64 places that is theirs alone. It is made where they had zeroes alone.
+/// Where the row of 64 places starts that is theirs alone. It is made where they had zeroes alone.
 fn own_row(top: &mut Vec<u32>, rows: &mut Vec<u32>, at: usize) -> Result<usize, NoMemory>
     requires sound { AreNumbers rows.old.items top.old.items }
     requires at { at < length top.old.items }
     ensures row { IfOk result (λ row. (0 < row) × IsAt top.new.items at row) }
     ensures sound { AreNumbers rows.new.items top.new.items }
-    ensures same { gathered 64 rows.new.items top.new.items ≡ gathered 64 rows.old.items top.old.items }
+    ensures same { gathered 64 rows.new.items (rows_at top.new.items) ≡ gathered 64 rows.old.items (rows_at top.old.items) }
 {
     let found = top[at] as usize;
     if found > 0 {
         return Ok(found);
     }
-    let row = rows.len() / ROW;
-    rows.resize((row + 1) * ROW, 0)?;
+    let row = rows.len();
+    rows.resize(row + ROW, 0)?;
     top[at] = row as u32;
     Ok(row)
 }
@@ -127,7 +127,7 @@ fn make_rows(
     requires sound { AreNumbers rows.old.items top.old.items }
     requires to { to ≤ length top.old.items }
     ensures sound { AreNumbers rows.new.items top.new.items }
-    ensures same { gathered 64 rows.new.items top.new.items ≡ gathered 64 rows.old.items top.old.items }
+    ensures same { gathered 64 rows.new.items (rows_at top.new.items) ≡ gathered 64 rows.old.items (rows_at top.old.items) }
 {
     for at in from..to {
         own_row(top, rows, at)?;

@@ -108,6 +108,13 @@ impl PagedBlocks {
         clear(&mut self.numbers, &mut self.pages, at, count);
     }
 
+    /// Whether none of them has a page. Then all are zero bytes.
+    pub fn has_no_page(&self) -> bool
+        ensures { result ≡ true → self.now.list ≡ replicate (length self.now.list) (zero_block self.now.size) }
+    {
+        self.pages.len() == PAGE
+    }
+
     /// The `count` blocks from place `at` are marked.
     pub fn mark(&mut self, at: usize, count: usize) -> Result<(), NoMemory>
         requires { at + count ≤ length self.old.list }
@@ -119,7 +126,6 @@ impl PagedBlocks {
     }
 
     /// The `count` blocks from place `at` become the source's, in pages of their own. These are made first, and the rest isn't refused.
-    #[cold]
     #[inline(never)]
     pub fn put(&mut self, at: usize, count: usize, source: &Source<'_>) -> Result<(), NoMemory>
         requires range { at + count ≤ length self.old.list }
@@ -186,8 +192,11 @@ fn make_pages(
             missing += 1;
         }
     }
-    numbers.reserve(from, to, missing)?;
+    if missing == 0 {
+        return Ok(());
+    }
     pages.reserve(missing * PAGE)?;
+    numbers.reserve(from, to, missing)?;
     for place in from..to {
         make_page(numbers, pages, place)?;
     }

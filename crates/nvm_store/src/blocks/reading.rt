@@ -79,13 +79,7 @@ impl Blocks {
                 buffer.fill(0);
                 false
             }
-            Memory::Flat(blocks) => {
-                if blocks.has_mark(at, count) {
-                    return true;
-                }
-                buffer.copy_from_slice(blocks.bytes(at, count));
-                false
-            }
+            Memory::Flat(blocks) => blocks.read_into(at, count, buffer),
             Memory::Paged(blocks) => blocks.read_into(at, count, buffer),
         }
     }

@@ -15,6 +15,9 @@ impl PagedBlocks {
         requires { at + count ≤ length self.now.list }
         ensures { result ≡ medium.has_mark (stretch_of at count self.now.list) }
     {
+        if !self.pages.may_have_mark() {
+            return false;
+        }
         // The number of blocks fits, so each place up to it does.
         let _len = self.len();
         let mut from = at;
@@ -39,10 +42,8 @@ impl PagedBlocks {
         ensures same { IfSome result (λ same. (medium.has_mark (stretch_of at count self.now.list) ≡ false)
             × (same ≡ bytes_eq (medium.joined (stretch_of at count self.now.list)) payload.now)) }
     {
-        // The number of blocks fits, so each place up to it does.
-        let _len = self.len();
         let stretch = self.stretch(at, count);
-        if at % PAGE + count <= PAGE {
+        if stretch.len == count {
             if stretch.pages.has_mark(stretch.at, count) {
                 return None;
             }
@@ -109,15 +110,9 @@ impl PagedBlocks {
         ensures read { result ≡ false → buffer.new ≡ medium.joined (stretch_of at count self.now.list) }
         ensures left { result ≡ true → buffer.new ≡ buffer.old }
     {
-        // The number of blocks fits, so each place up to it does.
-        let _len = self.len();
         let stretch = self.stretch(at, count);
-        if at % PAGE + count <= PAGE {
-            if stretch.pages.has_mark(stretch.at, count) {
-                return true;
-            }
-            buffer.copy_from_slice(stretch.pages.bytes(stretch.at, count));
-            return false;
+        if stretch.len == count {
+            return stretch.pages.read_into(stretch.at, count, buffer);
         }
         if self.has_mark(at, count) {
             return true;
@@ -153,7 +148,6 @@ impl PagedBlocks {
         requires range { from + most ≤ length self.now.list }
         ensures some { 0 < result.len }
         ensures few { result.len ≤ most }
-        ensures whole { from % 8 + most ≤ 8 → result.len ≡ most }
         ensures within { result.at + result.len ≤ length result.pages.now.list }
         ensures is { stretch_of from result.len self.now.list ≡ stretch_of result.at result.len result.pages.now.list }
         ensures size { result.pages.now.size ≡ self.now.size }
