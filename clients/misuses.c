@@ -776,8 +776,8 @@ static bool large_units(void)
 }
 
 /* A unit of more bytes keeps pages of eight blocks. Once one of a page was written or marked, no command in it takes memory, also one in several pages, and
- * also after it was zeroed; the first Write in a page is refused without. A Write Zeroes of all blocks gives all pages back. Where memory is refused at the nth
- * time to a Write or a mark in pages of which some weren't written, all blocks are as they were. */
+ * also after some of it was zeroed; the first Write in a page is refused without. A page of which all was zeroed is another's then, which takes none, and once none is
+ * left the unit has no memory. Where memory is refused at the nth time to a Write or a mark in pages of which some weren't written, all blocks are as they were. */
 static bool pages(void)
 {
     enum { BLOCKS = 256, PAGE = 8 };
@@ -800,9 +800,12 @@ static bool pages(void)
     memset(before + 21 * BLOCK, 0, 2 * BLOCK);
     right &= status_after(READ, PAGE, 4 * PAGE, read, sizeof read) == 0 && memcmp(read, before, sizeof read) == 0;
     right &= status_after(WRITE, 4 * PAGE, 1, data, BLOCK) == 0x006 && status_after(WRITE_UNCORRECTABLE, 4 * PAGE, 1, NULL, 0) == 0x006;
+    right &= status_after(WRITE_ZEROES, 2 * PAGE, PAGE, NULL, 0) == 0 && status_after(WRITE, 9 * PAGE, PAGE, data, PAGE * BLOCK) == 0;
+    memset(before + PAGE * BLOCK, 0, PAGE * BLOCK);
+    right &= status_after(COMPARE, PAGE, 4 * PAGE, before, sizeof before) == 0 && status_after(COMPARE, 9 * PAGE, PAGE, data, PAGE * BLOCK) == 0;
     refuses = false;
     right &= done_or_as_before(WRITE_UNCORRECTABLE, 3 * PAGE + 7, 2, NULL, PAGE, 4 * PAGE, before) && status_after(READ, 4 * PAGE, 1, read, BLOCK) == 0x281;
-    right &= status_after(WRITE_ZEROES, 0, BLOCKS, NULL, 0) == 0;
+    right &= status_after(WRITE_ZEROES, 0, BLOCKS / 2, NULL, 0) == 0 && status_after(WRITE_ZEROES, BLOCKS / 2, BLOCKS / 2, NULL, 0) == 0;
     refuses = true;
     right &= status_after(WRITE, PAGE, PAGE, data, PAGE * BLOCK) == 0x006 && status_after(WRITE_ZEROES, 0, BLOCKS, NULL, 0) == 0;
     memset(before, 0, sizeof before);

@@ -137,21 +137,24 @@ uint32_t zk_version(void);
  * Memory, beside what records and versions keep:
  *   - Opening takes up to 7 KiB for each region, and some 70 bytes for each region and port. Blocks that nobody has written take
  *     none.
- *   - A region of at most 65,536 bytes, without `versions`, is one piece of memory, which its first Write takes and a Write
- *     Zeroes or Deallocate of all its blocks gives back. A first Write Uncorrectable makes it a tree for good, by a copy.
- *   - Any other region is a tree, by eight blocks from its first on. Without `versions`, eight of 512 bytes are a page of 4 KiB
- *     once a Write had all of them, and in their unit nothing but whole eights. A Write Zeroes or Deallocate of all eight gives the
- *     page back. After a Write Uncorrectable of one they are as below, until a Write has all of them again.
- *   - Else the data of a Write stays until each of its blocks was changed again: at worst each block holds the longest Write that
- *     you submit. A Write Zeroes or Deallocate takes no memory for eight of which it changes none that was written, and leaves
- *     some 50 bytes a block where one was. A command that changes several blocks makes some 50 bytes for each anew, and copies up
- *     to 7 KiB of the tree, and pages that are changed with others; with `versions` one that changes a block may, too.
+ *   - Without `versions` a region of at most 65,536 bytes is one piece of memory, which its first Write or Write Uncorrectable
+ *     takes, and a Write Zeroes or Deallocate of all its blocks gives back.
+ *   - Without `versions` a larger one of blocks of 512 bytes is pages of eight blocks: the first Write or Write Uncorrectable in a
+ *     page takes its 4 KiB, also where it is of one block, and a Write Zeroes, or one range of a Deallocate, of all eight gives
+ *     them back. Beside its pages a region takes 4 KiB, 4 bytes for each 512 blocks that it has, and 256 bytes for each 512 that
+ *     have a page; all of that is given back once none of its pages is left. Its pages are one piece of memory, with room for up
+ *     to a quarter more, which may move when it grows, and has up to four times what they need after many were given back.
+ *   - Any other region is a tree, by eight blocks from its first on. The data of a Write stays until each of its blocks was changed
+ *     again: at worst each block holds the longest Write that you submit. A Write Zeroes or Deallocate takes no memory for eight
+ *     of which it changes none that was written, and leaves some 50 bytes a block where one was. A command that changes several
+ *     blocks makes some 50 bytes for each anew, and copies up to 7 KiB of the tree; with `versions` one that changes a block may,
+ *     too.
  *   - With ZK_NO_LIMIT a port keeps, until zk_close, room for the longest data of a Write or Compare in one unit that it was
  *     given, and of a pair's Compare too: a command that has to wait for its region keeps its data there.
  *   - With ZK_NO_LIMIT and without `versions`, these take none beyond that if they lie in one unit: a Read, whose blocks go
- *     straight into `data`, and a Compare; a Write, Write Zeroes or pair in a region of one piece; and in a tree one within a
- *     page, or of one block, where that holds the data of a Write of one block. A command in several units takes some, and one
- *     with data that a check refuses.
+ *     straight into `data`, and a Compare; any change in a region of one piece, and one in pages that are there; and in a tree one
+ *     of one block, where that holds the data of a Write of one block. A command in several units takes some, and one with data
+ *     that a check refuses.
  *
  * ZK_DONE; or ZK_IS_OPEN, ZK_BAD_PORTS, ZK_BAD_NAMESPACE, ZK_BAD_LIMIT or ZK_NO_MEMORY, tried in this order.
  * Threads: nobody else uses these ports during the call. */

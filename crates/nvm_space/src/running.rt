@@ -40,7 +40,6 @@ impl<K: Kept> Space<K> {
     /// A job that is refused, or has no parts, takes no memory. One of several parts asks for the memory of its list of parts
     /// before its first part, where parts are listed, and a Read over several units for that of its data; where it is refused,
     /// nothing is done. It waits for the regions.
-    #[inline(always)]
     pub fn run_job<R: Wait, G: Gate>(
         &self,
         rt: &R,
@@ -121,7 +120,6 @@ impl<K: Kept> Space<K> {
 }
 
 /// Does a job, or refuses it, and says what is reported to its host. `number` is its number.
-#[inline(always)]
 fn do_job<R: Wait, G: Gate, K: Kept>(
     rt: &R,
     alloc: Global,

@@ -82,11 +82,12 @@ pub joined_stretch : (at count n s : ℕ) (bytes : List ℕ) → at + count ≤ 
     → joined (stretch_of at count (cut n s bytes)) ≡ take (count * s) (drop (at * s) bytes)
 joined_stretch at count n s bytes within = ap joined (stretch_cut at count n s bytes within) ∙ joined_cut count s (drop (at * s) bytes)
 
-unmarked_cut : (n s : ℕ) (bytes : List ℕ) → has_mark (cut n s bytes) ≡ false
+-- None of them is marked.
+pub unmarked_cut : (n s : ℕ) (bytes : List ℕ) → has_mark (cut n s bytes) ≡ false
 unmarked_cut zero s bytes = refl
 unmarked_cut (suc n) s bytes = unmarked_cut n s (drop s bytes)
 
--- None of them is marked.
+-- So none of a range is.
 pub unmarked_stretch : (at count n s : ℕ) (bytes : List ℕ) → at + count ≤ n → has_mark (stretch_of at count (cut n s bytes)) ≡ false
 unmarked_stretch at count n s bytes within = ap has_mark (stretch_cut at count n s bytes within) ∙ unmarked_cut count s (drop (at * s) bytes)
 

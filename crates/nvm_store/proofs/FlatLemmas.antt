@@ -15,7 +15,7 @@ use Rattle.nvm_store.specs.Inside.Flat.{SizedBlocks, cut, marked_as, with_bytes}
 use Rattle.nvm_store.specs.Inside.Rewrite.{IsRewritten, stretch_of, zero_block}
 use Rattle.nvm_store.proofs.AtLemmas.{at_append_left, at_below, at_read}
 use Rattle.nvm_store.proofs.Data.{none_left}
-use Rattle.nvm_store.proofs.FlatBytes.{at_cut, cut_front, drop_cut, joined_stretch, length_cut, length_with_bytes, mul_le, rewritten_cut, span_within, stretch_cut, take_cut, unmarked_stretch, zeroed_cut, zeroes_cut}
+use Rattle.nvm_store.proofs.FlatBytes.{at_cut, cut_front, drop_cut, joined_stretch, length_cut, length_with_bytes, mul_le, rewritten_cut, span_within, stretch_cut, take_cut, unmarked_cut, unmarked_stretch, zeroed_cut, zeroes_cut}
 use Rattle.nvm_store.proofs.Rewrites.{at_append_right, at_take}
 
 length_marked_as : (marks : List Bool) (blocks : List Block) → length (marked_as marks blocks) ≡ length blocks
@@ -89,7 +89,13 @@ module _ (test : Bool → Bool) (yes : test true ≡ true) (no : test false ≡ 
       (unmarked_stretch at count n size bytes within)
       ∙ ap has_mark (sym (stretch_marked at count marks (cut n size bytes)))
 
--- Without a mark none of them is.
+-- Without a mark no block is marked.
+pub none_at_all : (size : ℕ) (marks : List Bool) (bytes : List ℕ) → marks ≡ replicate (length marks) false
+    → has_mark (marked_as marks (cut (length marks) size bytes)) ≡ false
+none_at_all size marks bytes none =
+    ap has_mark (none_marked marks (cut (length marks) size bytes) none) ∙ unmarked_cut (length marks) size bytes
+
+-- So none of a range is.
 pub none_in_stretch : (at count size : ℕ) (marks : List Bool) (bytes : List ℕ) → at + count ≤ length marks → marks ≡ replicate (length marks) false
     → false ≡ has_mark (stretch_of at count (marked_as marks (cut (length marks) size bytes)))
 none_in_stretch at count size marks bytes within none =

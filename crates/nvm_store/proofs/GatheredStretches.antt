@@ -1,17 +1,18 @@
 -- Ranges of blocks in pages: what lies in one page, and that none of it is marked.
-use Rattle.std.proofs.Common.{◌≡◌, ℕ, zero, suc, ◌+◌, ◌-◌, ◌*◌, ◌<◌, ◌≤◌, List, [], ◌∷◌, ◌++◌, length, take, drop, Bool, true, false, ◌||◌, refl, sym, ap, ◌∙◌, arith}
+use Rattle.std.proofs.Common.{◌≡◌, ℕ, zero, suc, ◌+◌, ◌-◌, ◌*◌, ◌<◌, ◌≤◌, List, [], ◌∷◌, ◌++◌, length, take, drop, replicate, Bool, true, false, ◌||◌, refl, sym, ap, ◌∙◌, arith}
 use mathlib.Core.Option.{some-injective, some-ne-none}
 use Rattle.std.proofs.Math.Seq.{drop-append-add}
 use Rattle.std.proofs.lemmas.Bool.{true≢false}
-use Rattle.std.proofs.lemmas.List.{drop-append-le, drop-drop, drop-take, length-drop, length-take-le, take-append-le, take-take}
+use Rattle.std.proofs.lemmas.List.{drop-append-le, drop-drop, drop-take, length-drop, length-take-le, take-append-le, take-replicate, take-take, take_all}
 use Rattle.nvm_record.specs.declared.block.Block.{Block}
+use Rattle.nvm_record.specs.declared.block.Block.TheVariants.{Bytes, Uncorrectable}
 use Rattle.nvm_record.specs.Lists.{IsAt}
 use Rattle.nvm_record.specs.Medium.{has_mark}
-use Rattle.nvm_store.specs.Inside.Gathered.{row_of, gathered}
+use Rattle.nvm_store.specs.Inside.Gathered.{row_of, gathered, named}
 use Rattle.nvm_store.specs.Inside.Flat.{SizedBlocks}
 use Rattle.nvm_store.specs.Inside.Pages.{ArePagedBlocks}
-use Rattle.nvm_store.specs.Inside.Rewrite.{IsRewritten, stretch_of}
-use Rattle.nvm_store.proofs.Gathering.{AreThere, all_there, length_gathered, length_row, place_of_row}
+use Rattle.nvm_store.specs.Inside.Rewrite.{IsRewritten, stretch_of, zero_block}
+use Rattle.nvm_store.proofs.Gathering.{AreThere, all_there, gathered_first, length_gathered, length_row, place_of_row}
 use Rattle.nvm_store.proofs.Parts.{LiesIn}
 use Rattle.nvm_store.proofs.Rewrites.{rewritten_front}
 use Rattle.nvm_store.proofs.Stretches.{has_mark-append, next_stretch}
@@ -92,6 +93,56 @@ unmarked_parts xs ys none = split (has_mark xs) (has_mark ys) (sym (has_mark-app
     split : (a b : Bool) → (a || b) ≡ false → (a ≡ false) × (b ≡ false)
     split true b is = absurd (true≢false is)
     split false b is = (refl, is)
+
+-- Of blocks of which none is marked, none of a range is.
+unmarked_take : (n : ℕ) (xs : List Block) → has_mark xs ≡ false → has_mark (take n xs) ≡ false
+unmarked_take zero xs none = refl
+unmarked_take (suc n) [] none = refl
+unmarked_take (suc n) (Bytes bytes ∷ xs) none = unmarked_take n xs none
+unmarked_take (suc n) (Uncorrectable ∷ xs) none = absurd (true≢false none)
+
+unmarked_drop : (n : ℕ) (xs : List Block) → has_mark xs ≡ false → has_mark (drop n xs) ≡ false
+unmarked_drop zero xs none = none
+unmarked_drop (suc n) [] none = refl
+unmarked_drop (suc n) (Bytes bytes ∷ xs) none = unmarked_drop n xs none
+unmarked_drop (suc n) (Uncorrectable ∷ xs) none = absurd (true≢false none)
+
+-- Gathered from rows of which none is marked, none is.
+unmarked_gathered : (w : ℕ) (rows : List Block) (numbers : List ℕ) → has_mark rows ≡ false → has_mark (gathered w rows numbers) ≡ false
+unmarked_gathered w rows [] none = refl
+unmarked_gathered w rows (n ∷ numbers) none =
+    has_mark-append (row_of w rows n) (gathered w rows numbers)
+    ∙ ap (λ (t : Bool). t || has_mark (gathered w rows numbers)) (unmarked_take w (drop (n * w) rows) (unmarked_drop (n * w) rows none))
+    ∙ unmarked_gathered w rows numbers none
+
+pub unmarked_paged : (count at n : ℕ) (pages : SizedBlocks) (numbers : List ℕ) → has_mark pages.list ≡ false
+    → has_mark (stretch_of at n (take count (gathered 8 pages.list numbers))) ≡ false
+unmarked_paged count at n pages numbers none =
+    let all = gathered 8 pages.list numbers in
+    unmarked_take n (drop at (take count all)) (unmarked_drop at (take count all) (unmarked_take count all (unmarked_gathered 8 pages.list numbers none)))
+
+-- Where none is named, all numbers are 0.
+none_named : (numbers : List ℕ) → named numbers ≡ 0 → numbers ≡ replicate (length numbers) 0
+none_named [] none = refl
+none_named (zero ∷ numbers) none = ap (λ (l : List ℕ). 0 ∷ l) (none_named numbers none)
+none_named (suc n ∷ numbers) none = absurd (omega (arith, none))
+
+-- With page 0 alone all blocks that count are zeroes.
+pub zero_paged : (count : ℕ) (pages : SizedBlocks) (numbers : List ℕ) → ArePagedBlocks count pages numbers → length pages.list ≡ 8
+    → take count (gathered 8 pages.list numbers) ≡ replicate (length (take count (gathered 8 pages.list numbers))) (zero_block pages.size)
+zero_paged count pages numbers is first =
+    let thing = zero_block pages.size in
+    let n = length numbers in
+    let one = is.paged.gathered.count in
+    let none : named numbers ≡ 0 = omega (arith, one, first) in
+    let rows : pages.list ≡ replicate 8 thing = sym (take_all 8 pages.list (omega (arith, first))) ∙ is.paged.gathered.first in
+    let all : gathered 8 pages.list numbers ≡ replicate (n * 8) thing =
+    ap (λ (l : List Block). gathered 8 l numbers) rows
+    ∙ ap (gathered 8 (replicate 8 thing)) (none_named numbers none)
+    ∙ gathered_first 8 n thing in
+    ap (take count) all
+    ∙ take-replicate count (n * 8) thing is.enough
+    ∙ ap (λ (k : ℕ). replicate k thing) (sym (length_paged count pages numbers is))
 
 pub unmarked_stretches : (blocks stretch : List Block) (from left n : ℕ) → stretch_of from n blocks ≡ stretch → n ≤ left
     → has_mark (stretch_of from left blocks) ≡ false

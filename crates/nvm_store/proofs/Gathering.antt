@@ -420,15 +420,6 @@ module _ {A : Type 0} where
         sound = set_is_gathered w thing rows numbers (suc n) j thing is some lt;
       }
 
-  set_set : (xs : List A) (i : ℕ) (x y : A) → set (set xs i x) i y ≡ set xs i y
-  set_set [] i x y = refl
-  set_set (z ∷ zs) zero x y = refl
-  set_set (z ∷ zs) (suc i) x y = ap (λ (l : List A). z ∷ l) (set_set zs i x y)
-
-  -- What was set is as it was once it is set back.
-  pub set_back : (xs : List A) (i : ℕ) (x y : A) → IsAt xs i x → set (set xs i y) i x ≡ xs
-  set_back xs i x y at = set_set xs i y x ∙ set_same xs i x at
-
 -- What a change of blocks within one row does to all.
 pub record IsChanged (w : ℕ) (thing : Block) (rows others : List Block) (numbers : List ℕ) (at count : ℕ) (news : ℕ → Block) : Type 0 where
   pub is : IsRewritten at count news (gathered w rows numbers) (gathered w others numbers)

@@ -1,6 +1,6 @@
 -- A range of a medium, and the blocks of a unit that hold it.
 use Rattle.std.proofs.Common.{◌≡◌, ◌⊎◌, ℕ, suc, ◌+◌, ◌-◌, ◌*◌, ◌<◌, ◌≤◌, List, [], ◌∷◌, length, get_or, take, drop, replicate, true, false, refl, sym, ap, subst, ◌∙◌, arith, inl, inr}
-use Rattle.std.specs.Prelude.{Result, Ok, Err, IsOk, OnOk, OnErr}
+use Rattle.std.specs.Prelude.{Result, Ok, Err, OnOk, OnErr}
 use Rattle.std.proofs.Math.ListN.{length-take}
 use Rattle.std.proofs.Math.Nat.{mul-le-mul_right}
 use Rattle.std.proofs.lemmas.Bool.Decides.{nat_tests, leb_tells}
@@ -169,11 +169,6 @@ held-rewritten law m first size at op news old new about held place is does i bl
           ]
       | inr below ↦ outside (inl below.1)
     ]
-
--- A change that isn't refused is made.
-pub not_refused : {T E P : Type 0} (r : Result T E) → IsOk r → OnOk r P → P
-not_refused (Ok y) is done = done
-not_refused (Err y) is done = cc
 
 -- A change leaves the blocks sound, whether it is made or refused.
 pub sound_after : {T E : Type 0} (r : Result T E) (first size at count : ℕ) (news : ℕ → Block) (old new : List Block)

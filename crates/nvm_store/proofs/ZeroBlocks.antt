@@ -1,13 +1,9 @@
 -- Blocks of zeroes that take no memory, and memory that is theirs alone.
-use Rattle.std.proofs.Common.{◌≡◌, ℕ, ◌+◌, ◌*◌, ◌≤◌, List, length, replicate, true, false, sym, ◌∙◌, subst, arith}
-use Rattle.std.proofs.lemmas.Bool.{true≢false}
+use Rattle.std.proofs.Common.{◌≡◌, ℕ, ◌+◌, ◌*◌, ◌≤◌, List, length, replicate, false, sym, ◌∙◌, subst, arith}
 use Rattle.std.proofs.lemmas.List.{length-replicate}
 use Rattle.nvm_record.specs.declared.block.Block.{Block}
 use Rattle.nvm_record.specs.Medium.{has_mark, joined}
-use Rattle.nvm_store.specs.Inside.Memory.{AreBounded, FitsSize, is_own, listed}
 use Rattle.nvm_store.specs.Inside.Rewrite.{IsRewritten, stretch_of, zero_block}
-use Rattle.nvm_store.specs.declared.blocks.Memory.{Memory}
-use Rattle.nvm_store.specs.declared.blocks.Memory.TheVariants.{Shared, Zeroes, Flat, Paged}
 use Rattle.nvm_store.proofs.Gathering.{at_replicate}
 use Rattle.nvm_store.proofs.FlatBytes.{joined_stretch, unmarked_stretch, zeroes_cut, zeroes_part}
 use Rattle.nvm_store.proofs.Rewrites.{rewritten_all, rewritten_as_they_were}
@@ -37,10 +33,3 @@ all_zero at n s old within same =
     let few = length-replicate n (zero_block s) in
     subst (λ (p : ℕ). IsRewritten p n (λ _. zero_block s) old (replicate n (zero_block s))) none
     (rewritten_all n (λ _. zero_block s) old (replicate n (zero_block s)) few (sym same) (λ i lt. at_replicate n (zero_block s) i lt))
-
--- Blocks in memory that is theirs alone are few.
-pub few_own : (size : ℕ) (memory : Memory) → FitsSize size memory → is_own memory ≡ true → AreBounded size (length (listed size memory))
-few_own size (Shared blocks) fits own = absurd (true≢false (sym own))
-few_own size (Zeroes count) fits own = rw (length-replicate count (zero_block size)) fits
-few_own size (Flat pages) fits own = fits.few
-few_own size (Paged blocks) fits own = fits.few

@@ -224,7 +224,15 @@ impl Blocks {
             Memory::Shared(blocks) => blocks.mark(alloc, at, count),
             Memory::Zeroes(all) => {
                 let (all, size) = (*all, self.size);
-                begin(&mut self.memory, alloc, all, size, at, count, &Source::Marks)
+                begin(
+                    &mut self.memory,
+                    alloc,
+                    all,
+                    size,
+                    at,
+                    count,
+                    &Source::Marks,
+                )
             }
             Memory::Flat(blocks) => {
                 blocks.mark(at, count);

@@ -25,8 +25,9 @@ use std::marker::Model;
 
 /// The blocks of one unit, which lie on neighbouring LBAs of the namespace.
 ///
-/// Contracts see the first LBA, the block size in bytes, and the list of the blocks. A block's data is a
-/// part of the payload that was written, or a copy in memory of its own. Copies of the unit share all blocks.
+/// Contracts see the first LBA, the block size in bytes, and the list of the blocks. Those of a unit that [`zeroed`](UnitBlocks::zeroed) made are
+/// in a tree, which copies share, and a block's data is a part of the payload that was written, or a copy; those of one that
+/// [`own`](UnitBlocks::own) made are in memory of its own.
 #[derive(Debug, Drop)]
 pub struct UnitBlocks {
     first: u64,
@@ -70,10 +71,11 @@ impl UnitBlocks {
         })
     }
 
-    /// What [`zeroed`](UnitBlocks::zeroed) gives, to be changed in place. It takes no memory until a block is written or marked. From then on blocks that have at
-    /// most 65,536 bytes are in one piece of memory, and more blocks of at most 512 bytes in pages of 8, each of which takes memory once a block of its is
-    /// written or marked, and gives it back once one command zeroes all eight. A share of the unit copies all of that. Larger blocks are in a tree, as
-    /// those of `zeroed` are.
+    /// What [`zeroed`](UnitBlocks::zeroed) gives, to be changed in place. It takes no memory until a block is written or marked, and none
+    /// again once all are zeroed at once. In between, blocks of at most 65,536 bytes together are in one piece of memory. More of them, of at most
+    /// 512 bytes each, are in pages of 8: a page takes its memory once one of its blocks is written or marked, and gives it back where one run of
+    /// zeroed blocks has all of them. The table of pages takes 4 bytes for each 512 blocks of the unit, and 256 more once one of these has a page.
+    /// All pages are one piece of memory, which may move when it grows, by a quarter. Larger blocks are in a tree.
     pub fn own(
         alloc: Global,
         first: u64,
@@ -93,8 +95,8 @@ impl UnitBlocks {
         })
     }
 
-    /// The same unit, which shares all blocks. It takes no memory, and is refused only where 2^63 - 1
-    /// units share them already; of a unit that was made by [`own`](UnitBlocks::own) it may copy them.
+    /// The same unit. One in a tree shares all blocks: that takes no memory, and is refused only where 2^63 - 1 units share them already. Else they
+    /// are copied, which may be refused for want of memory.
     pub fn share(&self) -> Result<UnitBlocks, NoMemory>
         ensures { IfOk result (λ unit. unit ≡ self.now) }
     {
@@ -138,8 +140,7 @@ impl UnitBlocks {
     /// unit holds. A Deallocate clears each block once, and costs a walk over the ranges for each run of
     /// blocks that it clears. In a tree, where no other unit shares them, these are changed in place: one block that is
     /// written, and blocks of one leaf that are zeroed, marked, or cleared as the only run of a Deallocate.
-    /// Blocks of a unit made by [`own`](UnitBlocks::own) that are in one piece of memory or in pages are always changed in place; to zero them is never
-    /// refused. Where memory is refused, the unit is as it was.
+    /// Blocks in one piece of memory or in pages are always changed in place. Where memory is refused, the unit is as it was.
     #[inline(always)]
     pub fn change(&mut self, alloc: Global, act: ActRef<'_>) -> Result<(), NoMemory>
         requires covered { Covers self.old (lent_operation_of act) }

@@ -9,7 +9,8 @@ use std::marker::Model;
 /// How many places a row has.
 const ROW: usize = 64;
 
-/// A number for each of many places, which contracts see as their list. They are 0 at first, and only rows of 64 places of which one has another number take memory.
+/// A number for each of many places, which contracts see as their list. They are 0 at first. A row of 64 places takes memory once one of these is given
+/// another number.
 #[derive(Drop)]
 pub struct Numbers {
     /// Where in `rows` the row of each 64 places starts.

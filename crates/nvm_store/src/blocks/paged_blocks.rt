@@ -1,4 +1,4 @@
-ghost use Rattle.std.specs.Prelude.{◌≡◌, ◌⊎◌, ℕ, ◌+◌, ◌-◌, ◌*◌, ◌/◌, ◌^◌, ◌<◌, ◌≤◌, IfOk, OnErr, OnOk, length, replicate};
+ghost use Rattle.std.specs.Prelude.{◌≡◌, ◌⊎◌, ℕ, ◌+◌, ◌-◌, ◌*◌, ◌/◌, ◌^◌, ◌<◌, ◌≤◌, IfOk, OnErr, OnOk, length, replicate, true};
 ghost use Rattle.nvm_record.specs.declared.block.Block.TheVariants.{Uncorrectable};
 ghost use Rattle.nvm_record.specs.Lists.{IsAt};
 ghost use Rattle.nvm_record.specs.Step.{block_at};
@@ -158,6 +158,7 @@ fn make_page(
     ensures same { gathered 8 pages.new.list numbers.new ≡ gathered 8 pages.old.list numbers.old }
     ensures own { OnOk result ((n : ℕ) → IsAt numbers.new place n → 0 < n) }
     ensures others { (i n : ℕ) → IsAt numbers.new i n → n ≡ 0 → IsAt numbers.old i n }
+    ensures elsewhere { (i n : ℕ) → IsAt numbers.new i n → (i ≡ place) ⊎ IsAt numbers.old i n }
 {
     if numbers.at(place) > 0 {
         return Ok(());
@@ -185,6 +186,7 @@ fn make_pages(
     ensures len { length numbers.new ≡ length numbers.old }
     ensures same { gathered 8 pages.new.list numbers.new ≡ gathered 8 pages.old.list numbers.old }
     ensures own { OnOk result ((i n : ℕ) → from ≤ i → i < to → IsAt numbers.new i n → 0 < n) }
+    ensures others { (i n : ℕ) → IsAt numbers.new i n → 0 < n → ((from ≤ i) × (i < to)) ⊎ IsAt numbers.old i n }
 {
     let mut missing = 0;
     for place in from..to {

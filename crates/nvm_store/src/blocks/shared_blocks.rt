@@ -78,7 +78,7 @@ impl SharedBlocks {
 
     /// The `count` blocks from place `at` take the data, in blocks of `size` bytes. They share it, if it is shared. Else one that is alone
     /// takes it into its own memory if it can, and several share a copy.
-    // A call, as a Read and a Compare of a tree are: with a way for each height of the tree they make who calls them so large that the compiler drops its `inline(always)`, without a message.
+    // A call, as a Read and a Compare of a tree are: inlined, they make their callers so large that the compiler drops `inline(always)` of these.
     #[inline(never)]
     pub fn write(
         &mut self,

@@ -66,3 +66,11 @@ returns-clause-others c i n at zero_n =
       | inl here ↦ let e = here.1 in absurd (omega (arith, e, zero_n))
       | inr other ↦ other.1
     ]
+
+pub returns-clause-elsewhere : goal.returns-clause-elsewhere
+returns-clause-elsewhere c i n at =
+    let numbers = c.args.numbers.now in
+    elim (at_set_back numbers c.args.place i (suc (named numbers)) n (rw c.in_default.ensures.ok at at)) [
+      | inl here ↦ inl here.0
+      | inr other ↦ inr other.1
+    ]

@@ -3,6 +3,7 @@ use Rattle.std.proofs.lemmas.Bool.Decides.{eqb_tells}
 use Rattle.nvm_record.specs.Lists.{IsAt}
 use Rattle.nvm_store.proofs.FlatBytes.{mul_le}
 use Rattle.nvm_store.proofs.Gathering.{named_le}
+use Rattle.nvm_store.proofs.Numbering.{one_at}
 use Rattle.nvm_store.proofs.blocks.paged_blocks.make_pages.Goals.{then-at-eq0, else-at-eq0}
 use Rattle.nvm_store.proofs.blocks.paged_blocks.make_pages.Goals as goal
 
@@ -22,14 +23,29 @@ loop-place-preserved c =
           record {
             seen = omega (arith, seen, more);
             few = omega (arith, seen, more, c.loop-place-test.true);
+            own = λ none. absurd (omega (arith, more, none));
           }
       | else-at-eq0 w ↦
           let same = w.missing-is in
           record {
             seen = omega (arith, seen, same);
             few = omega (arith, few, same);
+            own =
+                λ none i n from below at.
+                elim (eqb_tells i c.loop-place.place) [
+                  | inl here ↦
+                      let e =
+                      one_at c.args.numbers.now c.loop-place.place n c.at.result (subst (λ (k : ℕ). IsAt c.args.numbers.now k n) here.1 at) c.at.ensures.is in
+                      omega (arith, e, w.if-at-eq0.false)
+                  | inr other ↦
+                      c.loop-place.invariant.own (omega (arith, same, none)) i n from (let off = other.1 in omega (arith, below, off)) at
+                ];
           }
     ]
+
+pub returns-then-missing-eq0-clause-own : goal.returns-then-missing-eq0-clause-own
+returns-then-missing-eq0-clause-own c i n from below at =
+    c.loop-place.invariant.own (omega (arith, c.if-missing-eq0.true)) i n from (omega (arith, below, c.loop-place-test.false)) at
 
 pub overflow_mul-missing : goal.overflow_mul-missing
 overflow_mul-missing c =
@@ -37,8 +53,8 @@ overflow_mul-missing c =
     let many = c.requires.sound.few in
     omega (arith, few, many, c.requires.range)
 
-pub reserve-requires-2 : goal.reserve-requires-2
-reserve-requires-2 c =
+pub reserve-requires : goal.reserve-requires
+reserve-requires c =
     let numbers = c.args.numbers.now in
     let pages = c.args.pages.now in
     let missing = c.loop-place.missing in
@@ -60,6 +76,7 @@ loop-place-2-init c =
       len = refl;
       same = refl;
       own = λ i n from below at. absurd (omega (arith, from, below));
+      others = λ i n at some. inr at;
     })
 
 pub make_page-requires-clause-place : goal.make_page-requires-clause-place
@@ -87,4 +104,18 @@ loop-place-2-preserved c =
                   | inr some ↦ let off = some.1 in omega (arith, off)
                 ]
           ];
+      others =
+          λ i n at some.
+          elim (c.make_page.ensures.elsewhere i n at) [
+            | inl here ↦ inl (omega (arith, here, l.auto.place), omega (arith, here, c.loop-place-2-test.true))
+            | inr before ↦ l.invariant.others i n before some
+          ];
     }
+
+pub returns-in_err-make_page-clause-others : goal.returns-in_err-make_page-clause-others
+returns-in_err-make_page-clause-others c i n at some =
+    let l = c.loop-place-2 in
+    elim (c.make_page.ensures.elsewhere i n at) [
+      | inl here ↦ inl (omega (arith, here, l.auto.place), omega (arith, here, c.loop-place-2-test.true))
+      | inr before ↦ l.invariant.others i n before some
+    ]

@@ -1,8 +1,15 @@
 use Rattle.std.proofs.Common.{◌+◌, ◌-◌, Bool, ◌||◌, sym, ap, ◌∙◌, arith}
 use Rattle.nvm_record.specs.Medium as medium
 use Rattle.nvm_store.specs.Inside.Rewrite.{stretch_of}
+use Rattle.nvm_store.proofs.GatheredStretches.{unmarked_paged}
 use Rattle.nvm_store.proofs.Stretches.{next_stretch, has_mark-append}
 use Rattle.nvm_store.proofs.blocks.paged_blocks.PagedBlocks.has_mark.Goals as goal
+
+pub returns-then-not-may_have_mark : goal.returns-then-not-may_have_mark
+returns-then-not-may_have_mark c =
+    let own = c.self.inside in
+    rw (← c.self.view_is)
+    (sym (unmarked_paged own.count c.args.at c.args.count own.pages own.numbers (c.may_have_mark.ensures c.if-not-may_have_mark.true)))
 
 pub returns-then-has_mark : goal.returns-then-has_mark
 returns-then-has_mark c =
