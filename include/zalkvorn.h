@@ -141,8 +141,8 @@ uint32_t zk_version(void);
  *     takes, and a Write Zeroes or Deallocate of all its blocks gives back.
  *   - Without `versions` a larger one of blocks of 512 bytes is pages of eight blocks: the first Write or Write Uncorrectable in a
  *     page takes its 4 KiB, also where it is of one block, and a Write Zeroes, or one range of a Deallocate, of all eight gives
- *     them back. Beside its pages a region takes 4 KiB, 4 bytes for each 512 blocks that it has, and 256 bytes for each 512 that
- *     have a page; all of that is given back once none of its pages is left. Its pages are one piece of memory, with room for up
+ *     them back. Beside its pages, of 12 bytes more each, a region takes 4 KiB, 4 bytes for each 512 blocks that it has, and 256
+ *     for each 512 of which one had a page; all of that is given back once none of its pages is left. Its pages are one piece of memory, with room for up
  *     to a quarter more, which may move when it grows, and has up to four times what they need after many were given back.
  *   - Any other region is a tree, by eight blocks from its first on. The data of a Write stays until each of its blocks was changed
  *     again: at worst each block holds the longest Write that you submit. A Write Zeroes or Deallocate takes no memory for eight
@@ -152,7 +152,7 @@ uint32_t zk_version(void);
  *   - With ZK_NO_LIMIT a port keeps, until zk_close, room for the longest data of a Write or Compare in one unit that it was
  *     given, and of a pair's Compare too: a command that has to wait for its region keeps its data there.
  *   - With ZK_NO_LIMIT and without `versions`, these take none beyond that if they lie in one unit: a Read, whose blocks go
- *     straight into `data`, and a Compare; any change in a region of one piece, and one in pages that are there; and in a tree one
+ *     straight into `data`, and a Compare; any change in a region's one piece, or in its pages, that are there; and in a tree one
  *     of one block, where that holds the data of a Write of one block. A command in several units takes some, and one with data
  *     that a check refuses.
  *
