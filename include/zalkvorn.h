@@ -142,8 +142,9 @@ uint32_t zk_version(void);
  *   - Without `versions` a larger one of blocks of 512 bytes is pages of eight blocks: the first Write or Write Uncorrectable in a
  *     page takes its 4 KiB, also where it is of one block, and a Write Zeroes, or one range of a Deallocate, of all eight gives
  *     them back. Beside its pages, of 12 bytes more each, a region takes 4 KiB, 4 bytes for each 512 blocks that it has, and 256
- *     for each 512 of which one had a page; all of that is given back once none of its pages is left. Its pages are one piece of memory, with room for up
- *     to a quarter more, which may move when it grows, and has up to four times what they need after many were given back.
+ *     for each 512 of which one had a page; all of that is given back once none of its pages is left. Its pages are one piece of
+ *     memory, with room for up to a quarter more, which may move when it grows, and has up to four times what they need after many
+ *     were given back.
  *   - Any other region is a tree, by eight blocks from its first on. The data of a Write stays until each of its blocks was changed
  *     again: at worst each block holds the longest Write that you submit. A Write Zeroes or Deallocate takes no memory for eight
  *     of which it changes none that was written, and leaves some 50 bytes a block where one was. A command that changes several
