@@ -1,228 +1,28 @@
--- Numbers of places: what giving a place another number changes, and that each number keeps one owner.
-use Rattle.std.proofs.Common.{◌≡◌, ◌⊎◌, ℕ, zero, suc, ◌+◌, ◌-◌, ◌*◌, ◌/◌, ◌^◌, ◌<◌, ◌≤◌, refl, sym, ap, ◌∙◌, subst, arith, inl, inr}
+-- Numbers of places, each of which keeps one owner.
+use Rattle.std.proofs.Common.{◌≡◌, ◌⊎◌, ℕ, zero, suc, ◌-◌, ◌^◌, ◌<◌, ◌≤◌, refl, sym, ap, ◌∙◌, subst, arith, inl, inr}
 use Rattle.std.proofs.Common.{List, [], ◌∷◌, ◌++◌, length, get_or, take, replicate}
 use mathlib.Core.Option.{some-injective, some-ne-none}
 use Rattle.std.proofs.Math.ListN.{set}
 use Rattle.std.proofs.lemmas.Bool.Decides.{eqb_tells}
 use Rattle.std.proofs.lemmas.List.{length-append, length-replicate, length-set, length-take-le}
 use Rattle.nvm_record.specs.Lists.{IsAt}
-use Rattle.nvm_store.specs.Inside.Gathered.{gathered, named, rows_at, AreNumbers, IsGathered}
+use Rattle.nvm_store.specs.Inside.Gathered.{named}
 use Rattle.nvm_store.specs.Inside.Pages.{AreOwners, IsRemoved}
 use Rattle.nvm_store.proofs.AtLemmas.{at_push, at_read}
-use Rattle.nvm_store.proofs.Gathering.{all_there, at_first, at_gathered, at_set_back, cleared, grown, grown_same, length_gathered}
-use Rattle.nvm_store.proofs.Gathering.{named_le, named_lt, named_none, named_set, place_of_row, set_gathered, set_is_gathered}
-use Rattle.nvm_store.proofs.Parts.{LiesIn}
+use Rattle.nvm_store.proofs.Gathering.{at_set_back, named_none, named_set}
+use Rattle.nvm_store.proofs.NumberTables.{at_copies}
 use Rattle.nvm_store.proofs.Rewrites.{at_append_left, at_below, at_end, at_set_other, at_set_same, at_take, at_take_back}
 
 -- A place has one number.
 pub one_at : (numbers : List ℕ) (i x y : ℕ) → IsAt numbers i x → IsAt numbers i y → x ≡ y
 one_at numbers i x y a b = some-injective x y (sym a ∙ b)
 
-at_none : (n i m : ℕ) → IsAt (replicate n 0) i m → m ≡ 0
-at_none zero i m at = absurd (some-ne-none m (sym at))
-at_none (suc n) zero m at = sym (some-injective 0 m at)
-at_none (suc n) (suc i) m at = at_none n i m at
-
-pub length_rows_at : (top : List ℕ) → length (rows_at top) ≡ length top
-length_rows_at [] = refl
-length_rows_at (o ∷ top) = ap suc (length_rows_at top)
-
-pub at_rows_at : (top : List ℕ) (i o : ℕ) → IsAt top i o → IsAt (rows_at top) i (o / 64)
-at_rows_at [] i o at = absurd (some-ne-none o (sym at))
-at_rows_at (p ∷ top) zero o at =
-    let same : p ≡ o = some-injective p o at in
-    rw same refl
-at_rows_at (p ∷ top) (suc i) o at = at_rows_at top i o at
-
-pub rows_at_set : (top : List ℕ) (i o : ℕ) → rows_at (set top i o) ≡ set (rows_at top) i (o / 64)
-rows_at_set [] i o = refl
-rows_at_set (p ∷ top) zero o = refl
-rows_at_set (p ∷ top) (suc i) o = ap (λ (l : List ℕ). p / 64 ∷ l) (rows_at_set top i o)
-
-pub rows_at_none : (n : ℕ) → rows_at (replicate n 0) ≡ replicate n 0
-rows_at_none zero = refl
-rows_at_none (suc n) =
-    let first : 0 / 64 ≡ 0 = omega arith in
-    ap (λ (o : ℕ). o ∷ rows_at (replicate n 0)) first ∙ ap (λ (l : List ℕ). 0 ∷ l) (rows_at_none n)
-
--- Offset 0 is that of row 0, and at first all have it.
-pub first_numbers : (n : ℕ) → IsGathered {A = ℕ} 64 0 (replicate 64 0) (replicate n 0) → n * 64 < 2 ^ 32 → AreNumbers (replicate 64 0) (replicate n 0)
-first_numbers n is few = record {
-  gathered = rw (rows_at_none n) is;
-  few = let len = length-replicate {A = ℕ} n 0 in omega (arith, len, few);
-  whole = λ i o at. let none = at_none n i o at in omega (arith, none);
-}
-
--- Where a place lies: which offset is its row's, and where it is there.
-pub place_of_offset : (rows top : List ℕ) (place : ℕ) → AreNumbers rows top → place < length (gathered 64 rows (rows_at top)) → LiesIn 64 place (length top)
-place_of_offset rows top place are lt =
-    subst (λ (n : ℕ). LiesIn 64 place n) (length_rows_at top) (place_of_row 64 0 rows (rows_at top) place are.gathered lt)
-
--- A row's numbers are there.
-pub offset_there : (rows top : List ℕ) (k row : ℕ) → AreNumbers rows top → IsAt top k row → row + 64 ≤ length rows
-offset_there rows top k row are at =
-    let far = all_there 64 0 rows (rows_at top) are.gathered k (row / 64) (at_rows_at top k row at) in
-    let whole = are.whole k row at in
-    omega (arith, far, whole)
-
-pub offset_fits : (rows top : List ℕ) (k row : ℕ) → AreNumbers rows top → IsAt top k row → row < 2 ^ 32
-offset_fits rows top k row are at =
-    let le = are.gathered.within k (row / 64) (at_rows_at top k row at) in
-    let named = named_le (rows_at top) in
-    let len = length_rows_at top in
-    let whole = are.whole k row at in
-    let few = are.few in
-    omega (arith, le, named, len, whole, few)
-
--- What a row has is the number of the place.
-pub at_offset : (rows top : List ℕ) (k row j place x : ℕ) → AreNumbers rows top → IsAt top k row → j < 64 → place ≡ k * 64 + j → IsAt rows (row + j) x
-    → IsAt (gathered 64 rows (rows_at top)) place x
-at_offset rows top k row j place x are at lt here is =
-    let whole = are.whole k row at in
-    let same : row + j ≡ row / 64 * 64 + j = omega (arith, whole) in
-    subst (λ (p : ℕ). IsAt (gathered 64 rows (rows_at top)) p x) (sym here)
-    (at_gathered 64 rows (rows_at top) k (row / 64) j x (all_there 64 0 rows (rows_at top) are.gathered) (at_rows_at top k row at) lt
-    (subst (λ (p : ℕ). IsAt rows p x) same is))
-
--- The next row's offset: it fits in 32 bits, as one row has zeroes for all that have no row of their own.
-pub next_offset : (rows top : List ℕ) (k row : ℕ) → AreNumbers rows top → IsAt top k 0 → row ≡ length rows → (0 < row) × (row < 2 ^ 32)
-next_offset rows top k row are none is =
-    let count = are.gathered.count in
-    let first : 0 / 64 ≡ 0 = omega arith in
-    let lt = named_lt (rows_at top) k (subst (λ (n : ℕ). IsAt (rows_at top) k n) first (at_rows_at top k 0 none)) in
-    let len = length_rows_at top in
-    let few = are.few in
-    (omega (arith, count, is), omega (arith, count, is, lt, len, few))
-
--- There is one row more, which starts at `row`, and all numbers are as they were.
-pub record IsGrown (rows top : List ℕ) (k row : ℕ) : Type 0 where
-  pub sound : AreNumbers (rows ++ replicate 64 0) (set top k row)
-  pub same : gathered 64 (rows ++ replicate 64 0) (rows_at (set top k row)) ≡ gathered 64 rows (rows_at top)
-
-pub one_row_more : (rows top : List ℕ) (k row : ℕ) → AreNumbers rows top → IsAt top k 0 → row ≡ length rows → IsGrown rows top k row
-one_row_more rows top k row are none is =
-    let count = are.gathered.count in
-    let first : 0 / 64 ≡ 0 = omega arith in
-    let none' : IsAt (rows_at top) k 0 = subst (λ (n : ℕ). IsAt (rows_at top) k n) first (at_rows_at top k 0 none) in
-    let next : row / 64 ≡ suc (named (rows_at top)) = omega (arith, count, is) in
-    let now : rows_at (set top k row) ≡ set (rows_at top) k (suc (named (rows_at top))) =
-    rows_at_set top k row ∙ ap (λ (n : ℕ). set (rows_at top) k n) next in
-    record {
-      sound =
-          record {
-            gathered =
-                subst (λ (l : List ℕ). IsGathered 64 0 (rows ++ replicate 64 0) l) (sym now) (grown 64 0 rows (rows_at top) k are.gathered none');
-            few = let len = length-set top k row in let few = are.few in omega (arith, len, few);
-            whole =
-                λ i o at.
-                elim (at_set_back top k i row o at) [
-                  | inl here ↦ let e = here.1 in omega (arith, e, is, count)
-                  | inr other ↦ are.whole i o other.1
-                ];
-          };
-      same =
-          ap (λ (l : List ℕ). gathered 64 (rows ++ replicate 64 0) l) now ∙ grown_same 64 0 rows (rows_at top) k are.gathered none';
-    }
-
--- The number at `place`, which row `n` has at `j`, is now `x`.
-record IsRenumbered (rows top : List ℕ) (n j place x : ℕ) : Type 0 where
-  pub is : gathered 64 (set rows (n * 64 + j) x) top ≡ set (gathered 64 rows top) place x
-  pub sound : IsGathered 64 0 (set rows (n * 64 + j) x) top
-
--- Any place may get the number 0.
-numbered_zero : (rows top : List ℕ) (k n j place x : ℕ) → IsGathered 64 0 rows top → IsAt top k n → j < 64 → place ≡ k * 64 + j → x ≡ 0
-    → IsRenumbered rows top n j place x
-numbered_zero rows top k n j place x is at lt here none =
-    let done = cleared 64 0 rows top k n j is at lt in
-    rw (none, here) (record { is = done.is; sound = done.sound })
-
--- A place that has a number isn't in row 0, so it may get another.
-numbered : (rows top : List ℕ) (k n j place x : ℕ) → IsGathered 64 0 rows top → IsAt top k n → j < 64 → place ≡ k * 64 + j
-    → ((m : ℕ) → IsAt (gathered 64 rows top) place m → 0 < m) → IsRenumbered rows top n j place x
-numbered rows top k zero j place x is at lt here own =
-    let first = at_gathered 64 rows top k 0 j 0 (all_there 64 0 rows top is) at lt (at_first 64 0 rows top j is lt) in
-    let some = own 0 (subst (λ (p : ℕ). IsAt (gathered 64 rows top) p 0) (sym here) first) in
-    absurd (omega (arith, some))
-numbered rows top k (suc n) j place x is at lt here own =
-    let some : 0 < suc n = omega arith in
-    rw here
-    (record {
-      is = set_gathered 64 0 rows top k (suc n) j x is at some lt;
-      sound = set_is_gathered 64 0 rows top (suc n) j x is some lt;
-    })
-
-renumbered : (rows top : List ℕ) (k n j place x : ℕ) → IsGathered 64 0 rows top → IsAt top k n → j < 64 → place ≡ k * 64 + j
-    → (x ≡ 0) ⊎ ((m : ℕ) → IsAt (gathered 64 rows top) place m → 0 < m) → IsRenumbered rows top n j place x
-renumbered rows top k n j place x is at lt here own =
-    elim own [
-      | inl none ↦ numbered_zero rows top k n j place x is at lt here none
-      | inr some ↦ numbered rows top k n j place x is at lt here some
-    ]
-
--- The number at `place`, which the row that starts at `row` has at `j`, is now `x`.
-pub record IsRenumberedAt (rows top : List ℕ) (row j place x : ℕ) : Type 0 where
-  pub is : gathered 64 (set rows (row + j) x) (rows_at top) ≡ set (gathered 64 rows (rows_at top)) place x
-  pub sound : AreNumbers (set rows (row + j) x) top
-
-by_offset : (rows top : List ℕ) (k row j place x : ℕ) → AreNumbers rows top → IsAt top k row → IsRenumbered rows (rows_at top) (row / 64) j place x
-    → IsRenumberedAt rows top row j place x
-by_offset rows top k row j place x are at done =
-    let whole = are.whole k row at in
-    let same : row / 64 * 64 + j ≡ row + j = omega (arith, whole) in
-    record {
-      is =
-          subst (λ (p : ℕ). gathered 64 (set rows p x) (rows_at top) ≡ set (gathered 64 rows (rows_at top)) place x) same done.is;
-      sound =
-          record {
-            gathered = subst (λ (p : ℕ). IsGathered 64 0 (set rows p x) (rows_at top)) same done.sound;
-            few = are.few;
-            whole = are.whole;
-          };
-    }
-
-pub renumbered_at : (rows top : List ℕ) (k row j place x : ℕ) → AreNumbers rows top → IsAt top k row → j < 64 → place ≡ k * 64 + j
-    → (x ≡ 0) ⊎ ((m : ℕ) → IsAt (gathered 64 rows (rows_at top)) place m → 0 < m) → IsRenumberedAt rows top row j place x
-renumbered_at rows top k row j place x are at lt here own =
-    by_offset rows top k row j place x are at
-    (renumbered rows (rows_at top) k (row / 64) j place x are.gathered (at_rows_at top k row at) lt here own)
-
--- A place whose row isn't row 0 may get any number.
-pub put_at : (rows top : List ℕ) (k row j place x : ℕ) → AreNumbers rows top → IsAt top k row → 0 < row → j < 64 → place ≡ k * 64 + j
-    → IsRenumberedAt rows top row j place x
-put_at rows top k row j place x are at own lt here =
-    let whole = are.whole k row at in
-    let some : 0 < row / 64 = omega (arith, whole, own) in
-    by_offset rows top k row j place x are at
-    (rw here
-    (record {
-      is = set_gathered 64 0 rows (rows_at top) k (row / 64) j x are.gathered (at_rows_at top k row at) some lt;
-      sound = set_is_gathered 64 0 rows (rows_at top) (row / 64) j x are.gathered some lt;
-    }))
-
--- The same numbers have as many rows.
-pub same_top : (rows top rows' top' : List ℕ) → AreNumbers rows top → AreNumbers rows' top'
-    → gathered 64 rows' (rows_at top') ≡ gathered 64 rows (rows_at top) → length top' ≡ length top
-same_top rows top rows' top' is is' same =
-    let len = length_gathered 64 rows (rows_at top) (all_there 64 0 rows (rows_at top) is.gathered) in
-    let len' = length_gathered 64 rows' (rows_at top') (all_there 64 0 rows' (rows_at top') is'.gathered) in
-    let e : length (gathered 64 rows' (rows_at top')) ≡ length (gathered 64 rows (rows_at top)) = ap length same in
-    let tops = length_rows_at top in
-    let tops' = length_rows_at top' in
-    omega (arith, len, len', e, tops, tops')
-
--- The rows of the places up to one of them are there.
-pub rows_up_to : (rows top : List ℕ) (to : ℕ) → AreNumbers rows top → to ≤ length (gathered 64 rows (rows_at top)) → to ≤ length top * 64
-rows_up_to rows top to is le =
-    let len = length_gathered 64 rows (rows_at top) (all_there 64 0 rows (rows_at top) is.gathered) in
-    let tops = length_rows_at top in
-    omega (arith, len, le, tops)
-
 -- At first no place has a number.
 pub first_owners : (n : ℕ) → n < 2 ^ 32 → AreOwners (0 ∷ []) (replicate n 0)
 first_owners n few = record {
   count = ap suc (sym (named_none n));
   each = λ place m at some. let lt = at_below (0 ∷ []) m place at in absurd (let lt' : m < 1 = lt in omega (arith, lt', some));
-  owned = λ place m at some. let none = at_none n place m at in absurd (omega (arith, none, some));
+  owned = λ place m at some. let none = at_copies n 0 place m at in absurd (omega (arith, none, some));
   few = let len = length-replicate {A = ℕ} n 0 in omega (arith, len, few);
 }
 

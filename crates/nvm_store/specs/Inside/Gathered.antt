@@ -1,5 +1,5 @@
 -- Rows of one width that lie in any order, gathered by their numbers.
-use Rattle.std.specs.Prelude.{◌≡◌, ◌⊎◌, ℕ, zero, suc, ◌*◌, ◌/◌, ◌^◌, ◌<◌, ◌≤◌, List, [], ◌∷◌, ◌++◌, length, take, drop, replicate}
+use Rattle.std.specs.Prelude.{◌≡◌, ◌⊎◌, ℕ, zero, suc, ◌+◌, ◌-◌, ◌*◌, ◌/◌, ◌^◌, ◌<◌, ◌≤◌, List, [], ◌∷◌, ◌++◌, length, map, take, drop, replicate}
 use Rattle.nvm_record.specs.Lists.{IsAt}
 
 -- the row of a number
@@ -25,13 +25,17 @@ pub record IsGathered {A : Type 0} (width : ℕ) (thing : A) (rows : List A) (nu
   pub within : (i n : ℕ) → IsAt numbers i n → n ≤ named numbers
   pub once : (i j n : ℕ) → IsAt numbers i n → IsAt numbers j n → (n ≡ 0) ⊎ (i ≡ j)
 
--- the numbers of the rows of 64 that start at these offsets
-abbrev pub rows_at : List ℕ → List ℕ
-rows_at [] = []
-rows_at (offset ∷ offsets) = offset / 64 ∷ rows_at offsets
+-- the numbers of the rows of 64 that start where the first `top` of a table say, row 0 right behind these
+abbrev pub row_numbers : ℕ → List ℕ → List ℕ
+row_numbers top table = map (λ (offset : ℕ). (offset - top) / 64) (take top table)
 
--- Numbers by rows of 64 of them, which start at these offsets: the offsets fit in 32 bits.
-pub record AreNumbers (rows top : List ℕ) : Type 0 where
-  pub gathered : IsGathered 64 0 rows (rows_at top)
-  pub few : length top * 64 < 2 ^ 32
-  pub whole : (i offset : ℕ) → IsAt top i offset → offset ≡ offset / 64 * 64
+-- what a table of numbers has: the numbers in those rows
+abbrev pub numbers_in : ℕ → List ℕ → List ℕ
+numbers_in top table = gathered 64 (drop top table) (row_numbers top table)
+
+-- Its rows are sound, and what it says of where they start fits in 32 bits.
+pub record AreNumbers (top : ℕ) (table : List ℕ) : Type 0 where
+  pub gathered : IsGathered 64 0 (drop top table) (row_numbers top table)
+  pub long : top ≤ length table
+  pub few : top * 65 < 2 ^ 32
+  pub whole : (i offset : ℕ) → IsAt (take top table) i offset → offset ≡ top + (offset - top) / 64 * 64

@@ -1,6 +1,6 @@
 ghost use Rattle.std.specs.Prelude.{◌≡◌, ◌⊎◌, ℕ, ◌+◌, ◌^◌, ◌<◌, ◌≤◌, IfOk, OnErr, OnOk, length, replicate, slice_set};
 ghost use Rattle.nvm_record.specs.Lists.{IsAt};
-ghost use Rattle.nvm_store.specs.Inside.Gathered.{gathered, rows_at, AreNumbers};
+ghost use Rattle.nvm_store.specs.Inside.Gathered.{numbers_in, AreNumbers};
 
 use nvm_record::NoMemory;
 use std::alloc::Global;
@@ -13,35 +13,36 @@ const ROW: usize = 64;
 /// another number.
 #[derive(Drop)]
 pub struct Numbers {
-    /// Where in `rows` the row of each 64 places starts.
-    top: Vec<u32>,
-    /// The rows, one after the other. Row 0 has zeroes alone, and many places may have it; each other row belongs to 64 places.
-    rows: Vec<u32>,
+    /// First, for each 64 places, where in the table their row starts; then the rows, one after the other. The first row has zeroes alone, and many 64s of
+    /// places may have it; each other row belongs to 64 places.
+    table: Vec<u32>,
+    /// How many stand before the rows.
+    top: usize,
 }
 
 impl Model for Numbers {
     ghost use Rattle.std.specs.Prelude.{List, ℕ};
-    ghost use Rattle.nvm_store.specs.Inside.Gathered.{gathered, rows_at, AreNumbers};
+    ghost use Rattle.nvm_store.specs.Inside.Gathered.{numbers_in, AreNumbers};
 
     ghost Value = { List ℕ };
 
-    ghost view = { λ n. gathered 64 n.rows.items (rows_at n.top.items) };
+    ghost view = { λ n. numbers_in n.top n.table.items };
 
-    ghost invariant = { λ n. AreNumbers n.rows.items n.top.items };
+    ghost invariant = { λ n. AreNumbers n.top n.table.items };
 }
 
 impl Numbers {
     /// Zeroes for at least so many places.
     pub fn zeroed(alloc: Global, places: usize) -> Result<Numbers, NoMemory>
-        requires { places + 64 < 2 ^ 32 }
+        requires { places < 2 ^ 31 }
         ensures enough { IfOk result (λ numbers. places ≤ length numbers) }
         ensures few { IfOk result (λ numbers. length numbers ≤ places + 64) }
         ensures zeroes { IfOk result (λ numbers. numbers ≡ replicate (length numbers) 0) }
     {
-        Ok(Numbers {
-            top: Vec::from_elem(alloc, 0, places / ROW + 1)?,
-            rows: Vec::from_elem(alloc, 0, ROW)?,
-        })
+        let top = places / ROW + 1;
+        let mut table = Vec::from_elem(alloc, top as u32, top)?;
+        table.resize(top + ROW, 0)?;
+        Ok(Numbers { table, top })
     }
 
     /// The number of a place.
@@ -51,8 +52,8 @@ impl Numbers {
         ensures is { IsAt self.now place result }
         ensures fits { result < 2 ^ 32 }
     {
-        let row = self.top[place / ROW] as usize;
-        self.rows[row + place % ROW] as usize
+        let row = self.table[place / ROW] as usize;
+        self.table[row + place % ROW] as usize
     }
 
     /// Gives a place this number. Where its row had zeroes alone, that takes the memory of a row.
@@ -61,8 +62,8 @@ impl Numbers {
         ensures ok { OnOk result (self.new ≡ slice_set self.old place number) }
         ensures err { OnErr result (self.new ≡ self.old) }
     {
-        let row = own_row(&mut self.top, &mut self.rows, place / ROW)?;
-        self.rows[row + place % ROW] = number;
+        let row = own_row(&mut self.table, self.top, place / ROW)?;
+        self.table[row + place % ROW] = number;
         Ok(())
     }
 
@@ -72,8 +73,8 @@ impl Numbers {
         requires own { (number ≡ 0) ⊎ ((n : ℕ) → IsAt self.old place n → 0 < n) }
         ensures { self.new ≡ slice_set self.old place number }
     {
-        let row = self.top[place / ROW] as usize;
-        self.rows[row + place % ROW] = number;
+        let row = self.table[place / ROW] as usize;
+        self.table[row + place % ROW] = number;
     }
 
     /// Makes the rows of the places from `from` up to `to`, so that giving them numbers takes no memory.
@@ -81,12 +82,7 @@ impl Numbers {
         requires { to ≤ length self.old }
         ensures { self.new ≡ self.old }
     {
-        make_rows(
-            &mut self.top,
-            &mut self.rows,
-            from / ROW,
-            (to + ROW - 1) / ROW,
-        )
+        make_rows(&mut self.table, self.top, from / ROW, (to + ROW - 1) / ROW)
     }
 
     /// The same numbers in memory of their own.
@@ -94,44 +90,39 @@ impl Numbers {
         ensures { IfOk result (λ numbers. numbers ≡ self.now) }
     {
         Ok(Numbers {
-            top: self.top.clone()?,
-            rows: self.rows.clone()?,
+            table: self.table.clone()?,
+            top: self.top,
         })
     }
 }
 
 /// Where the row of 64 places starts that is theirs alone. It is made where they had zeroes alone.
-fn own_row(top: &mut Vec<u32>, rows: &mut Vec<u32>, at: usize) -> Result<usize, NoMemory>
-    requires sound { AreNumbers rows.old.items top.old.items }
-    requires at { at < length top.old.items }
-    ensures row { IfOk result (λ row. (0 < row) × IsAt top.new.items at row) }
-    ensures sound { AreNumbers rows.new.items top.new.items }
-    ensures same { gathered 64 rows.new.items (rows_at top.new.items) ≡ gathered 64 rows.old.items (rows_at top.old.items) }
+fn own_row(table: &mut Vec<u32>, top: usize, at: usize) -> Result<usize, NoMemory>
+    requires sound { AreNumbers top table.old.items }
+    requires at { at < top }
+    ensures row { IfOk result (λ row. (top < row) × IsAt table.new.items at row) }
+    ensures sound { AreNumbers top table.new.items }
+    ensures same { numbers_in top table.new.items ≡ numbers_in top table.old.items }
 {
-    let found = top[at] as usize;
-    if found > 0 {
+    let found = table[at] as usize;
+    if found > top {
         return Ok(found);
     }
-    let row = rows.len();
-    rows.resize(row + ROW, 0)?;
-    top[at] = row as u32;
+    let row = table.len();
+    table.resize(row + ROW, 0)?;
+    table[at] = row as u32;
     Ok(row)
 }
 
 /// Makes the rows of 64 places from `from` up to `to`, each theirs alone.
-fn make_rows(
-    top: &mut Vec<u32>,
-    rows: &mut Vec<u32>,
-    from: usize,
-    to: usize,
-) -> Result<(), NoMemory>
-    requires sound { AreNumbers rows.old.items top.old.items }
-    requires to { to ≤ length top.old.items }
-    ensures sound { AreNumbers rows.new.items top.new.items }
-    ensures same { gathered 64 rows.new.items (rows_at top.new.items) ≡ gathered 64 rows.old.items (rows_at top.old.items) }
+fn make_rows(table: &mut Vec<u32>, top: usize, from: usize, to: usize) -> Result<(), NoMemory>
+    requires sound { AreNumbers top table.old.items }
+    requires to { to ≤ top }
+    ensures sound { AreNumbers top table.new.items }
+    ensures same { numbers_in top table.new.items ≡ numbers_in top table.old.items }
 {
     for at in from..to {
-        own_row(top, rows, at)?;
+        own_row(table, top, at)?;
     }
     Ok(())
 }

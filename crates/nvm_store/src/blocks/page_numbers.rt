@@ -30,7 +30,7 @@ impl Model for PageNumbers {
 impl PageNumbers {
     /// At least so many places without a number.
     pub fn zeroed(alloc: Global, places: usize) -> Result<PageNumbers, NoMemory>
-        requires { places + 64 < 2 ^ 32 }
+        requires { places < 2 ^ 31 }
         ensures enough { IfOk result (λ numbers. places ≤ length numbers) }
         ensures few { IfOk result (λ numbers. length numbers < 2 ^ 32) }
         ensures zeroes { IfOk result (λ numbers. numbers ≡ replicate (length numbers) 0) }

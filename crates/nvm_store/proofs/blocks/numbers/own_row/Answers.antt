@@ -1,58 +1,34 @@
-use Rattle.std.proofs.Common.{◌≡◌, ℕ, ◌+◌, ◌-◌, List, ◌++◌, length, replicate, take, refl, sym, ◌∙◌, subst, arith}
-use Rattle.std.proofs.lemmas.List.{take_all}
-use Rattle.nvm_record.specs.Lists.{IsAt}
-use Rattle.nvm_store.proofs.AtLemmas.{at_read}
-use Rattle.nvm_store.proofs.Numbering.{next_offset, one_row_more}
-use Rattle.nvm_store.proofs.Rewrites.{at_set_same}
+use Rattle.std.proofs.Common.{arith}
+use Rattle.nvm_store.proofs.NumberTables.{one_row_more, read_at}
 use Rattle.nvm_store.proofs.blocks.numbers.own_row.Goals as goal
 
-pub returns-then-found-gt0-clause-row : goal.returns-then-found-gt0-clause-row
-returns-then-found-gt0-clause-row c =
-    let top = c.args.top.now.items in
-    (c.if-found-gt0.true, subst (λ (n : ℕ). IsAt top c.args.at n) (sym c.index.ensures) (at_read top c.args.at c.index.result.now c.requires.at))
+pub index-requires : goal.index-requires
+index-requires c = let long = c.requires.sound.long in rw c.args.table.now.ok.0 (omega (arith, c.requires.at, long))
 
--- The rows with one more.
-longer : (rows : List ℕ) (n m : ℕ) → n ≡ m → m ≡ length rows → take (n + 64) rows ++ replicate {A = ℕ} (n + 64 - m) 0 ≡ rows ++ replicate 64 0
-longer rows n m e len =
-    let all : take (n + 64) rows ≡ rows = take_all (n + 64) rows (omega (arith, e, len)) in
-    let few : n + 64 - m ≡ 64 = omega (arith, e) in
-    rw (all, few) refl
+pub returns-then-found-top-clause-row : goal.returns-then-found-top-clause-row
+returns-then-found-top-clause-row c =
+    let long = c.requires.sound.long in
+    (c.if-found-top.true, read_at c.args.table.now.items c.args.at c.index.result.now (omega (arith, c.requires.at, long)) c.index.ensures)
 
 pub overflow_cast-row : goal.overflow_cast-row
 overflow_cast-row c =
-    let top = c.args.top.now.items in
-    let len = c.len-row.ensures ∙ c.args.rows.now.ok.0 in
-    let zero_there : c.index.result.now ≡ 0 = omega (arith, c.if-found-gt0.false) in
-    let none = subst (λ (n : ℕ). IsAt top c.args.at n) (sym c.index.ensures ∙ zero_there) (at_read top c.args.at c.index.result.now c.requires.at) in
-    let fits = (next_offset c.args.rows.now.items top c.args.at c.len-row.result c.requires.sound none len).1 in
+    let grown = one_row_more c.args.top c.args.table.now.items c.resize.new.self.items c.args.at c.index.result.now c.len-row.result c.args.table.now.len
+    c.requires.sound c.requires.at c.index.ensures c.if-found-top.false c.len-row.ensures c.args.table.now.ok.0 c.in_ok-resize.ensures.items in
+    let fits = grown.fits in
     omega (arith, fits)
 
 pub returns-clause-row : goal.returns-clause-row
 returns-clause-row c =
-    let top = c.args.top.now.items in
-    let len = c.len-row.ensures ∙ c.args.rows.now.ok.0 in
-    let zero_there : c.index.result.now ≡ 0 = omega (arith, c.if-found-gt0.false) in
-    let none = subst (λ (n : ℕ). IsAt top c.args.at n) (sym c.index.ensures ∙ zero_there) (at_read top c.args.at c.index.result.now c.requires.at) in (
-      (next_offset c.args.rows.now.items top c.args.at c.len-row.result c.requires.sound none len).0,
-      at_set_same top c.args.at c.len-row.result c.requires.at,
-    )
+    let grown = one_row_more c.args.top c.args.table.now.items c.resize.new.self.items c.args.at c.index.result.now c.len-row.result c.args.table.now.len
+    c.requires.sound c.requires.at c.index.ensures c.if-found-top.false c.len-row.ensures c.args.table.now.ok.0 c.in_ok-resize.ensures.items in
+    (grown.high, grown.at)
 
 pub returns-clause-sound : goal.returns-clause-sound
 returns-clause-sound c =
-    let top = c.args.top.now.items in
-    let rows = c.args.rows.now.items in
-    let len = c.len-row.ensures ∙ c.args.rows.now.ok.0 in
-    let zero_there : c.index.result.now ≡ 0 = omega (arith, c.if-found-gt0.false) in
-    let none = subst (λ (n : ℕ). IsAt top c.args.at n) (sym c.index.ensures ∙ zero_there) (at_read top c.args.at c.index.result.now c.requires.at) in
-    let more = c.in_ok-resize.ensures.items ∙ longer rows c.len-row.result c.args.rows.now.len c.len-row.ensures c.args.rows.now.ok.0 in
-    rw more (one_row_more rows top c.args.at c.len-row.result c.requires.sound none len).sound
+    (one_row_more c.args.top c.args.table.now.items c.resize.new.self.items c.args.at c.index.result.now c.len-row.result c.args.table.now.len
+    c.requires.sound c.requires.at c.index.ensures c.if-found-top.false c.len-row.ensures c.args.table.now.ok.0 c.in_ok-resize.ensures.items).sound
 
 pub returns-clause-same : goal.returns-clause-same
 returns-clause-same c =
-    let top = c.args.top.now.items in
-    let rows = c.args.rows.now.items in
-    let len = c.len-row.ensures ∙ c.args.rows.now.ok.0 in
-    let zero_there : c.index.result.now ≡ 0 = omega (arith, c.if-found-gt0.false) in
-    let none = subst (λ (n : ℕ). IsAt top c.args.at n) (sym c.index.ensures ∙ zero_there) (at_read top c.args.at c.index.result.now c.requires.at) in
-    let more = c.in_ok-resize.ensures.items ∙ longer rows c.len-row.result c.args.rows.now.len c.len-row.ensures c.args.rows.now.ok.0 in
-    rw more (one_row_more rows top c.args.at c.len-row.result c.requires.sound none len).same
+    (one_row_more c.args.top c.args.table.now.items c.resize.new.self.items c.args.at c.index.result.now c.len-row.result c.args.table.now.len
+    c.requires.sound c.requires.at c.index.ensures c.if-found-top.false c.len-row.ensures c.args.table.now.ok.0 c.in_ok-resize.ensures.items).same

@@ -1,34 +1,27 @@
-use Rattle.std.proofs.Common.{ℕ, ◌+◌, ◌*◌, ◌/◌, replicate, ap, sym, arith}
-use Rattle.std.proofs.lemmas.List.{length-replicate}
-use Rattle.nvm_store.proofs.Gathering.{first_is_gathered, gathered_first}
-use Rattle.nvm_store.proofs.Numbering.{first_numbers, rows_at_none}
+use Rattle.std.proofs.Common.{◌+◌, ◌/◌, sym, arith}
+use Rattle.nvm_store.proofs.NumberTables.{first_numbers}
 use Rattle.nvm_store.proofs.blocks.numbers.Numbers.zeroed.Goals as goal
 
 pub invariant_of-result : goal.invariant_of-result
 invariant_of-result c =
-    let tops = c.args.places / 64 + 1 in
-    rw (c.in_ok-from_elem.ensures.items_if_clones_equal (λ y e. e), c.in_ok-from_elem-2.ensures.items_if_clones_equal (λ y e. e))
-    (first_numbers tops (first_is_gathered {A = ℕ} 64 tops 0 (omega arith)) (omega (arith, c.requires)))
+    (first_numbers (c.args.places / 64 + 1) c.in_ok-table.table.len c.in_ok-table.table.items c.resize.new.self.items (omega (arith, c.requires))
+    (c.in_ok-table.ensures.items_if_clones_equal (λ y e. e)) (sym c.in_ok-table.ensures.len) c.in_ok-table.table.ok.0 c.in_ok-resize.ensures.items).sound
 
 pub returns-clause-zeroes : goal.returns-clause-zeroes
 returns-clause-zeroes c =
-    let tops = c.args.places / 64 + 1 in
-    let all = gathered_first {A = ℕ} 64 tops 0 in
-    rw (c.in_ok-from_elem.ensures.items_if_clones_equal (λ y e. e), c.in_ok-from_elem-2.ensures.items_if_clones_equal (λ y e. e), rows_at_none tops, all)
-    (ap (λ (n : ℕ). replicate {A = ℕ} n 0) (sym (length-replicate {A = ℕ} (tops * 64) 0)))
+    (first_numbers (c.args.places / 64 + 1) c.in_ok-table.table.len c.in_ok-table.table.items c.resize.new.self.items (omega (arith, c.requires))
+    (c.in_ok-table.ensures.items_if_clones_equal (λ y e. e)) (sym c.in_ok-table.ensures.len) c.in_ok-table.table.ok.0 c.in_ok-resize.ensures.items).is
 
 pub returns-clause-enough : goal.returns-clause-enough
 returns-clause-enough c =
-    let tops = c.args.places / 64 + 1 in
-    let all = gathered_first {A = ℕ} 64 tops 0 in
-    let len = length-replicate {A = ℕ} (tops * 64) 0 in
-    rw (c.in_ok-from_elem.ensures.items_if_clones_equal (λ y e. e), c.in_ok-from_elem-2.ensures.items_if_clones_equal (λ y e. e), rows_at_none tops, all)
-    (omega arith)
+    let len =
+    (first_numbers (c.args.places / 64 + 1) c.in_ok-table.table.len c.in_ok-table.table.items c.resize.new.self.items (omega (arith, c.requires))
+    (c.in_ok-table.ensures.items_if_clones_equal (λ y e. e)) (sym c.in_ok-table.ensures.len) c.in_ok-table.table.ok.0 c.in_ok-resize.ensures.items).len in
+    omega (arith, len)
 
 pub returns-clause-few : goal.returns-clause-few
 returns-clause-few c =
-    let tops = c.args.places / 64 + 1 in
-    let all = gathered_first {A = ℕ} 64 tops 0 in
-    let len = length-replicate {A = ℕ} (tops * 64) 0 in
-    rw (c.in_ok-from_elem.ensures.items_if_clones_equal (λ y e. e), c.in_ok-from_elem-2.ensures.items_if_clones_equal (λ y e. e), rows_at_none tops, all)
-    (omega arith)
+    let len =
+    (first_numbers (c.args.places / 64 + 1) c.in_ok-table.table.len c.in_ok-table.table.items c.resize.new.self.items (omega (arith, c.requires))
+    (c.in_ok-table.ensures.items_if_clones_equal (λ y e. e)) (sym c.in_ok-table.ensures.len) c.in_ok-table.table.ok.0 c.in_ok-resize.ensures.items).len in
+    omega (arith, len)
