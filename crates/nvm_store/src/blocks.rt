@@ -238,7 +238,7 @@ impl Blocks {
                 blocks.mark(at, count);
                 Ok(())
             }
-            Memory::Paged(blocks) => blocks.mark(at, count),
+            Memory::Paged(blocks) => blocks.put(at, count, &Source::Marks),
         }
     }
 }

@@ -1,5 +1,4 @@
 ghost use Rattle.std.specs.Prelude.{◌≡◌, ◌⊎◌, ℕ, ◌+◌, ◌-◌, ◌*◌, ◌/◌, ◌^◌, ◌<◌, ◌≤◌, IfOk, OnErr, OnOk, length, replicate, true};
-ghost use Rattle.nvm_record.specs.declared.block.Block.TheVariants.{Uncorrectable};
 ghost use Rattle.nvm_record.specs.Lists.{IsAt};
 ghost use Rattle.nvm_record.specs.Step.{block_at};
 ghost use Rattle.nvm_store.specs.Inside.Gathered.{gathered};
@@ -113,16 +112,6 @@ impl PagedBlocks {
         ensures { result ≡ true → self.now.list ≡ replicate (length self.now.list) (zero_block self.now.size) }
     {
         self.pages.len() == PAGE
-    }
-
-    /// The `count` blocks from place `at` are marked.
-    pub fn mark(&mut self, at: usize, count: usize) -> Result<(), NoMemory>
-        requires { at + count ≤ length self.old.list }
-        ensures size { self.new.size ≡ self.old.size }
-        ensures ok { OnOk result (IsRewritten at count (λ _. Uncorrectable) self.old.list self.new.list) }
-        ensures err { OnErr result (self.new.list ≡ self.old.list) }
-    {
-        self.put(at, count, &Source::Marks)
     }
 
     /// The `count` blocks from place `at` become the source's, in pages of their own. These are made first, and the rest isn't refused.
