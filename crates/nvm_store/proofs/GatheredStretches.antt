@@ -1,5 +1,5 @@
 -- Ranges of blocks in pages: what lies in one page, and that none of it is marked.
-use Rattle.std.proofs.Common.{◌≡◌, ℕ, zero, suc, ◌+◌, ◌-◌, ◌*◌, ◌<◌, ◌≤◌, List, [], ◌∷◌, ◌++◌, length, take, drop, replicate, Bool, true, false, ◌||◌, refl, sym, ap, ◌∙◌, arith}
+use Rattle.std.proofs.Common.{◌≡◌, ℕ, zero, suc, ◌+◌, ◌-◌, ◌*◌, ◌/◌, ◌%◌, ◌^◌, ◌<◌, ◌≤◌, List, [], ◌∷◌, ◌++◌, length, take, drop, replicate, Bool, true, false, ◌||◌, refl, sym, ap, ◌∙◌, arith}
 use mathlib.Core.Option.{some-injective, some-ne-none}
 use Rattle.std.proofs.Math.Seq.{drop-append-add}
 use Rattle.std.proofs.lemmas.Bool.{true≢false}
@@ -7,15 +7,16 @@ use Rattle.std.proofs.lemmas.List.{drop-append-le, drop-drop, drop-take, length-
 use Rattle.nvm_record.specs.declared.block.Block.{Block}
 use Rattle.nvm_record.specs.declared.block.Block.TheVariants.{Bytes, Uncorrectable}
 use Rattle.nvm_record.specs.Lists.{IsAt}
-use Rattle.nvm_record.specs.Medium.{has_mark}
+use Rattle.nvm_record.specs.Medium.{has_mark, joined}
 use Rattle.nvm_store.specs.Inside.Gathered.{row_of, gathered, named}
 use Rattle.nvm_store.specs.Inside.Flat.{SizedBlocks}
-use Rattle.nvm_store.specs.Inside.Pages.{ArePagedBlocks}
+use Rattle.nvm_store.specs.Inside.Pages.{ArePages, ArePagedBlocks}
 use Rattle.nvm_store.specs.Inside.Rewrite.{IsRewritten, stretch_of, zero_block}
-use Rattle.nvm_store.proofs.Gathering.{AreThere, all_there, gathered_first, length_gathered, length_row, place_of_row}
+use Rattle.nvm_store.specs.Inside.Stretch.{AreParts}
+use Rattle.nvm_store.proofs.Gathering.{AreThere, all_there, changed, gathered_first, length_gathered, length_row, place_of_row}
 use Rattle.nvm_store.proofs.Parts.{LiesIn}
 use Rattle.nvm_store.proofs.Rewrites.{rewritten_front}
-use Rattle.nvm_store.proofs.Stretches.{has_mark-append, next_stretch}
+use Rattle.nvm_store.proofs.Stretches.{has_mark-append, joined-append, next_stretch}
 
 module _ {A : Type 0} where
   -- a place of the k-th row and what is after it
@@ -79,6 +80,14 @@ length_paged count pages numbers is =
     let enough = is.enough in
     length-take-le count all (omega (arith, len, enough))
 
+-- A range of those that count is below 2^32.
+pub low_range : (count : ℕ) (pages : SizedBlocks) (numbers : List ℕ) (at n : ℕ) → ArePagedBlocks count pages numbers
+    → at + n ≤ length (take count (gathered 8 pages.list numbers)) → at + n < 2 ^ 32
+low_range count pages numbers at n is range =
+    let counted = length_paged count pages numbers is in
+    let low = is.low in
+    omega (arith, counted, low, range)
+
 -- A place of those that count lies in a page.
 pub place_of_page : (count : ℕ) (pages : SizedBlocks) (numbers : List ℕ) (at : ℕ) → ArePagedBlocks count pages numbers → at < count → LiesIn 8 at (length numbers)
 place_of_page count pages numbers at is lt =
@@ -87,7 +96,7 @@ place_of_page count pages numbers at is lt =
     place_of_row 8 _ pages.list numbers at is.paged.gathered (omega (arith, len, enough, lt))
 
 -- Of blocks of which none is marked, none is here, and none behind.
-pub unmarked_parts : (xs ys : List Block) → has_mark (xs ++ ys) ≡ false → (has_mark xs ≡ false) × (has_mark ys ≡ false)
+unmarked_parts : (xs ys : List Block) → has_mark (xs ++ ys) ≡ false → (has_mark xs ≡ false) × (has_mark ys ≡ false)
 unmarked_parts xs ys none = split (has_mark xs) (has_mark ys) (sym (has_mark-append xs ys) ∙ none)
   where
     split : (a b : Bool) → (a || b) ≡ false → (a ≡ false) × (b ≡ false)
@@ -144,11 +153,19 @@ zero_paged count pages numbers is first =
     ∙ take-replicate count (n * 8) thing is.enough
     ∙ ap (λ (k : ℕ). replicate k thing) (sym (length_paged count pages numbers is))
 
-pub unmarked_stretches : (blocks stretch : List Block) (from left n : ℕ) → stretch_of from n blocks ≡ stretch → n ≤ left
-    → has_mark (stretch_of from left blocks) ≡ false
-    → (has_mark stretch ≡ false) × (has_mark (stretch_of (from + n) (left - n) blocks) ≡ false)
-unmarked_stretches blocks stretch from left n is le none =
-    unmarked_parts stretch (stretch_of (from + n) (left - n) blocks) (sym (ap has_mark (next_stretch blocks stretch from left n is le)) ∙ none)
+-- A range and its front.
+pub parts_of : (blocks front : List Block) (from left n : ℕ) → stretch_of from n blocks ≡ front → n ≤ left
+    → AreParts front (stretch_of (from + n) (left - n) blocks) (stretch_of from left blocks)
+parts_of blocks front from left n is le =
+    let behind = stretch_of (from + n) (left - n) blocks in
+    let whole = next_stretch blocks front from left n is le in
+    let marks = ap has_mark whole ∙ has_mark-append front behind in
+    record {
+      marked = λ yes. marks ∙ ap (λ (t : Bool). t || has_mark behind) yes;
+      rest = λ none. marks ∙ ap (λ (t : Bool). t || has_mark behind) none;
+      unmarked = λ none. (unmarked_parts front behind (sym (ap has_mark whole) ∙ none)).0;
+      bytes = ap joined whole ∙ joined-append front behind;
+    }
 
 -- A change of the gathered blocks within those that count is one of these.
 pub counted_change : (count : ℕ) (pages others : SizedBlocks) (numbers after : List ℕ) (at n : ℕ) (news : ℕ → Block) → ArePagedBlocks count pages numbers
@@ -159,3 +176,12 @@ counted_change count pages others numbers after at n news is within put =
     let counted = length_paged count pages numbers is in
     let enough = is.enough in
     rewritten_front at n count news (gathered 8 pages.list numbers) (gathered 8 others.list after) (omega (arith, within, counted)) (omega (arith, len, enough)) put
+
+-- A change within one page: they are pages still, and the gathered blocks change so.
+pub changed_page : (pages others : SizedBlocks) (numbers : List ℕ) (page at n : ℕ) (news : ℕ → Block) → ArePages pages numbers → IsAt numbers (at / 8) page
+    → 0 < page → at % 8 + n ≤ 8 → others.size ≡ pages.size → IsRewritten (page * 8 + at % 8) n news pages.list others.list
+    → ArePages others numbers × IsRewritten at n news (gathered 8 pages.list numbers) (gathered 8 others.list numbers)
+changed_page pages others numbers page at n news is number some within size put =
+    let place : at ≡ at / 8 * 8 + at % 8 = omega arith in
+    let done = changed 8 (zero_block pages.size) pages.list others.list numbers (at / 8) page (at % 8) at n news is.gathered number some place within (omega arith) put in
+    (record { gathered = rw size done.sound; few = is.few; small = rw size is.small }, done.is)

@@ -13,3 +13,4 @@ pub mod Memory
 -- Rows that are known by their numbers, and pages of blocks.
 pub mod Gathered
 pub mod Pages
+pub mod Stretch

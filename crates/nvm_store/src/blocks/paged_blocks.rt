@@ -89,7 +89,7 @@ impl PagedBlocks {
         ensures err { OnErr result (self.new.list ≡ self.old.list) }
     {
         let page = self.numbers.at(at / PAGE);
-        if page > 0 && count <= PAGE - at % PAGE {
+        if page > 0 && at % PAGE + count <= PAGE {
             self.pages.put(page * PAGE + at % PAGE, count, payload);
             return Ok(());
         }

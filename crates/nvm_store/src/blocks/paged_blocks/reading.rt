@@ -1,7 +1,8 @@
-ghost use Rattle.std.specs.Prelude.{◌≡◌, ◌+◌, ◌++◌, ◌<◌, ◌≤◌, IfNone, IfSome, OnOk, false, length, true};
+ghost use Rattle.std.specs.Prelude.{◌≡◌, ◌+◌, ◌-◌, ◌%◌, ◌^◌, ◌++◌, ◌<◌, ◌≤◌, IfNone, IfSome, OnOk, false, length, true};
 ghost use Rattle.std.specs.Str.{bytes_eq};
 ghost use Rattle.nvm_record.specs.Medium as medium;
 ghost use Rattle.nvm_store.specs.Inside.Rewrite.{stretch_of};
+ghost use Rattle.nvm_store.specs.Inside.Stretch.{AreParts};
 
 use crate::blocks::flat_blocks::FlatBlocks;
 use crate::blocks::paged_blocks::{PAGE, PagedBlocks};
@@ -18,8 +19,6 @@ impl PagedBlocks {
         if !self.pages.may_have_mark() {
             return false;
         }
-        // The number of blocks fits, so each place up to it does.
-        let _len = self.len();
         let mut from = at;
         let mut left = count;
         while left > 0 {
@@ -43,7 +42,7 @@ impl PagedBlocks {
             × (same ≡ bytes_eq (medium.joined (stretch_of at count self.now.list)) payload.now)) }
     {
         let stretch = self.stretch(at, count);
-        if stretch.len == count {
+        if at % PAGE + count <= PAGE {
             if stretch.pages.has_mark(stretch.at, count) {
                 return None;
             }
@@ -61,8 +60,6 @@ impl PagedBlocks {
         requires unmarked { medium.has_mark (stretch_of at count self.now.list) ≡ false }
         ensures { result ≡ bytes_eq (medium.joined (stretch_of at count self.now.list)) payload.now }
     {
-        // The number of blocks fits, so each place up to it does.
-        let _len = self.len();
         let mut from = at;
         let mut left = count;
         let mut rest = payload;
@@ -86,8 +83,6 @@ impl PagedBlocks {
         ensures { OnOk result
             (bytes.new.items ≡ bytes.old.items ++ medium.joined (stretch_of at count self.now.list)) }
     {
-        // The number of blocks fits, so each place up to it does.
-        let _len = self.len();
         let mut from = at;
         let mut left = count;
         while left > 0 {
@@ -111,7 +106,7 @@ impl PagedBlocks {
         ensures left { result ≡ true → buffer.new ≡ buffer.old }
     {
         let stretch = self.stretch(at, count);
-        if stretch.len == count {
+        if at % PAGE + count <= PAGE {
             return stretch.pages.read_into(stretch.at, count, buffer);
         }
         if self.has_mark(at, count) {
@@ -128,8 +123,6 @@ impl PagedBlocks {
         requires room { length buffer.old ≡ length (medium.joined (stretch_of at count self.now.list)) }
         ensures { buffer.new ≡ medium.joined (stretch_of at count self.now.list) }
     {
-        // The number of blocks fits, so each place up to it does.
-        let _len = self.len();
         let mut from = at;
         let mut left = count;
         let mut to = 0;
@@ -148,9 +141,12 @@ impl PagedBlocks {
         requires range { from + most ≤ length self.now.list }
         ensures some { 0 < result.len }
         ensures few { result.len ≤ most }
+        ensures whole { from % 8 + most ≤ 8 → result.len ≡ most }
+        ensures fits { from + most < 2 ^ 32 }
         ensures within { result.at + result.len ≤ length result.pages.now.list }
         ensures is { stretch_of from result.len self.now.list ≡ stretch_of result.at result.len result.pages.now.list }
-        ensures size { result.pages.now.size ≡ self.now.size }
+        ensures parts { AreParts (stretch_of result.at result.len result.pages.now.list) (stretch_of (from + result.len) (most - result.len) self.now.list)
+            (stretch_of from most self.now.list) }
     {
         let page = self.numbers.at(from / PAGE);
         Stretch {

@@ -1,4 +1,4 @@
-use Rattle.std.proofs.Common.{◌≡◌, ℕ, ◌+◌, ◌*◌, ◌/◌, ◌%◌, ◌<◌, ◌≤◌, inl, inr, refl, ap, sym, ◌∙◌, subst, arith}
+use Rattle.std.proofs.Common.{◌≡◌, ℕ, ◌+◌, ◌*◌, ◌/◌, ◌%◌, ◌≤◌, inl, inr, refl, ap, sym, ◌∙◌, subst, arith}
 use Rattle.nvm_record.specs.declared.block.Block.{Block}
 use Rattle.nvm_record.specs.Lists.{IsAt}
 use Rattle.nvm_store.specs.Inside.Gathered.{gathered}
@@ -6,7 +6,8 @@ use Rattle.nvm_store.specs.Inside.Rewrite.{zero_block}
 use Rattle.nvm_store.specs.Inside.Source.{source_block, AreZeroes, HasSize}
 use Rattle.nvm_store.specs.declared.blocks.source.Source.{Source}
 use Rattle.nvm_store.specs.declared.blocks.source.Source.TheVariants.{Data, Zeroes, Marks}
-use Rattle.nvm_store.proofs.Gathering.{all_there, at_first, at_gathered, changed}
+use Rattle.nvm_store.proofs.Gathering.{all_there, at_first, at_gathered}
+use Rattle.nvm_store.proofs.GatheredStretches.{changed_page}
 use Rattle.nvm_store.proofs.Rewrites.{rewritten_as_they_were, rewritten_on}
 use Rattle.nvm_store.proofs.blocks.paged_blocks.fill.Goals.{then-page-gt0, else-page-gt0}
 use Rattle.nvm_store.proofs.blocks.paged_blocks.fill.Goals as goal
@@ -28,7 +29,6 @@ loop-done-preserved c =
     let row = here / 8 in
     let j = here % 8 in
     let place : here ≡ row * 8 + j = omega arith in
-    let below : j < 8 = omega arith in
     let min = c.min-most.ensures in
     let few : l.done + most ≤ c.args.count = omega (arith, min, l.invariant.few) in
     let within : j + most ≤ 8 = omega (arith, min) in
@@ -37,20 +37,15 @@ loop-done-preserved c =
     let size = l.invariant.size in
     elim c.if-page-gt0.branch [
       | then-page-gt0 w ↦
-          let some = w.if-page-gt0.true in
-          let done = changed 8 (zero_block l.pages.size) l.pages.list w.fill.new.self.list numbers row page j here most news l.invariant.sound.gathered
-          c.at-page.ensures.is some place within below w.fill.ensures.list in
+          let done = changed_page l.pages w.fill.new.self numbers page here most news l.invariant.sound c.at-page.ensures.is w.if-page-gt0.true within
+          w.fill.ensures.size w.fill.ensures.list in
           rw w.pages-is
           (record {
-            sound = record {
-              gathered = rw w.fill.ensures.size done.sound;
-              few = l.invariant.sound.few;
-              small = rw w.fill.ensures.size l.invariant.sound.small;
-            };
+            sound = done.0;
             size = w.fill.ensures.size ∙ size;
             few = few;
             list = rewritten_on c.args.at l.done most here (source_block source) old (gathered 8 l.pages.list numbers) (gathered 8 w.fill.new.self.list numbers)
-                l.invariant.list refl done.is;
+                l.invariant.list refl done.1;
           })
       | else-page-gt0 w ↦
           let none : page ≡ 0 = omega (arith, w.if-page-gt0.false) in

@@ -1,4 +1,4 @@
-use Rattle.std.proofs.Common.{◌≡◌, ◌+◌, ◌-◌, ◌++◌, [], List, ℕ, sym, ap, ◌∙◌, arith, refl}
+use Rattle.std.proofs.Common.{◌≡◌, ◌+◌, ◌-◌, [], sym, ◌∙◌, arith, refl}
 use Rattle.std.proofs.lemmas.List.{append_cancel_left}
 use Rattle.std.proofs.lemmas.Slice.Eq.{bytes_eq-Decides}
 use Rattle.std.specs.Bool.{one_answer}
@@ -6,49 +6,29 @@ use Rattle.std.specs.Str.{bytes_eq}
 use Rattle.nvm_record.specs.Medium.{joined}
 use Rattle.nvm_store.specs.Inside.Rewrite.{stretch_of}
 use Rattle.nvm_store.proofs.Data.{empty_tells, tells_other}
-use Rattle.nvm_store.proofs.GatheredStretches.{unmarked_stretches}
-use Rattle.nvm_store.proofs.Stretches.{next_stretch, joined-append}
 use Rattle.nvm_store.proofs.blocks.paged_blocks.PagedBlocks.is_equal.Goals as goal
-
-pub bytes-bytes-requires-clause-unmarked : goal.bytes-bytes-requires-clause-unmarked
-bytes-bytes-requires-clause-unmarked c =
-    let part = c.stretch-stretch.result in
-    let n = part.len in
-    (unmarked_stretches c.args.self.now.list (stretch_of part.at n part.pages.now.list) c.loop-left.from c.loop-left.left n
-    c.stretch-stretch.ensures.is c.stretch-stretch.ensures.few c.loop-left.invariant.unmarked).0
 
 pub returns-in_default : goal.returns-in_default
 returns-in_default c =
-    let part = c.stretch-stretch.result in
-    let n = part.len in
-    let stretch = stretch_of part.at n part.pages.now.list in
-    let rest = stretch_of (c.loop-left.from + n) (c.loop-left.left - n) c.args.self.now.list in
-    let next = next_stretch c.args.self.now.list stretch c.loop-left.from c.loop-left.left n c.stretch-stretch.ensures.is c.stretch-stretch.ensures.few in
+    let l = c.loop-left in
+    let n = c.stretch-stretch.result.len in
+    let rest = joined (stretch_of (l.from + n) (l.left - n) c.args.self.now.list) in
     tells_other (joined (stretch_of c.args.at c.args.count c.args.self.now.list)) c.args.payload.now
-    (λ same.
-    c.in_default.ensures (joined rest)
-    (ap (λ (l : List ℕ). l ++ joined rest) c.bytes-bytes.ensures.bytes
-    ∙ sym (joined-append stretch rest)
-    ∙ sym (ap joined next)
-    ∙ c.loop-left.invariant.on same))
+    (λ same. c.in_default.ensures rest (let left = l.invariant.on same in cc (c.bytes-bytes.ensures.bytes, c.stretch-stretch.ensures.parts.bytes, left)))
 
 pub loop-left-preserved : goal.loop-left-preserved
 loop-left-preserved c =
-    let part = c.stretch-stretch.result in
-    let n = part.len in
-    let stretch = stretch_of part.at n part.pages.now.list in
-    let rest = stretch_of (c.loop-left.from + n) (c.loop-left.left - n) c.args.self.now.list in
-    let next = next_stretch c.args.self.now.list stretch c.loop-left.from c.loop-left.left n c.stretch-stretch.ensures.is c.stretch-stretch.ensures.few in
-    let cut = ap joined next ∙ joined-append stretch rest in
+    let l = c.loop-left in
+    let n = c.stretch-stretch.result.len in
+    let parts = c.stretch-stretch.ensures.parts in
+    let rest = joined (stretch_of (l.from + n) (l.left - n) c.args.self.now.list) in
+    let own = c.bytes-bytes.result.now in
     let behind = c.in-Some.behind.now in
-    let front = ap (λ (l : List ℕ). l ++ behind) (sym c.bytes-bytes.ensures.bytes) ∙ c.in-Some.ensures in
     record {
-      range = omega (arith, c.stretch-stretch.ensures.few, c.loop-left.invariant.range);
-      unmarked =
-          (unmarked_stretches c.args.self.now.list stretch c.loop-left.from c.loop-left.left n c.stretch-stretch.ensures.is c.stretch-stretch.ensures.few
-          c.loop-left.invariant.unmarked).1;
-      on = λ same. append_cancel_left (joined stretch) (joined rest) behind (sym cut ∙ c.loop-left.invariant.on same ∙ sym front);
-      back = λ same. c.loop-left.invariant.back (cut ∙ ap (λ (l : List ℕ). joined stretch ++ l) same ∙ front);
+      range = omega (arith, c.stretch-stretch.ensures.few, l.invariant.range);
+      unmarked = sym (parts.rest (parts.unmarked l.invariant.unmarked)) ∙ l.invariant.unmarked;
+      on = λ same. append_cancel_left own rest behind (let left = l.invariant.on same in cc (c.bytes-bytes.ensures.bytes, parts.bytes, left, c.in-Some.ensures));
+      back = λ same. l.invariant.back (cc (c.bytes-bytes.ensures.bytes, parts.bytes, same, c.in-Some.ensures));
     }
 
 pub returns : goal.returns

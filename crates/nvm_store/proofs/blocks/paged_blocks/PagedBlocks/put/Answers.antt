@@ -3,22 +3,20 @@ use Rattle.nvm_record.specs.declared.block.Block.{Block}
 use Rattle.nvm_store.specs.Inside.Gathered.{gathered}
 use Rattle.nvm_store.specs.Inside.Rewrite.{IsRewritten}
 use Rattle.nvm_store.specs.Inside.Source.{source_block}
-use Rattle.nvm_store.proofs.GatheredStretches.{counted_change, length_paged}
+use Rattle.nvm_store.proofs.GatheredStretches.{counted_change, low_range}
 use Rattle.nvm_store.proofs.blocks.paged_blocks.PagedBlocks.put.Goals as goal
 
 pub overflow_add-end : goal.overflow_add-end
 overflow_add-end c =
-    let counted = length_paged c.self.inside.count c.self.inside.pages c.self.inside.numbers c.self.invariant in
-    let range = rw (← c.self.view_is) at c.requires.range in
-    let low = c.self.invariant.low in
-    omega (arith, counted, range, low)
+    let own = c.self.inside in
+    let low = low_range own.count own.pages own.numbers c.args.at c.args.count c.self.invariant (rw (← c.self.view_is) at c.requires.range) in
+    omega (arith, low)
 
 pub overflow_add-end-2 : goal.overflow_add-end-2
 overflow_add-end-2 c =
-    let counted = length_paged c.self.inside.count c.self.inside.pages c.self.inside.numbers c.self.invariant in
-    let range = rw (← c.self.view_is) at c.requires.range in
-    let low = c.self.invariant.low in
-    omega (arith, counted, range, low)
+    let own = c.self.inside in
+    let low = low_range own.count own.pages own.numbers c.args.at c.args.count c.self.invariant (rw (← c.self.view_is) at c.requires.range) in
+    omega (arith, low)
 
 pub returns-clause-ok : goal.returns-clause-ok
 returns-clause-ok c =
