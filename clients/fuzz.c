@@ -53,7 +53,6 @@ struct expected {
     uint32_t answers[5];
     struct command first, second;
     bool pair;
-    bool in_pieces;
 };
 
 struct worker {
@@ -349,7 +348,6 @@ static void compare_and_write(struct space *s, const struct command *c, const st
 
 /* The data of a submission is in one piece. */
 #define UNCUT SIZE_MAX
-#define MOST_PIECES 5
 
 /* What a submission may answer, with its data in two pieces where `cut` says how long the first one is. Where it isn't refused by a code, the
  * thread's own blocks are as after it. */
@@ -456,18 +454,6 @@ static bool is_same(struct worker *w, const char *call, const uint8_t *entries, 
 static bool try_read_now(struct worker *w, struct space *s, bool pending);
 static bool try_identify(struct worker *w, struct space *s);
 
-/* Cuts so many bytes of the data at random, into at most `most` pieces. */
-static size_t cut_up(struct worker *w, size_t length, struct zk_piece *pieces, size_t most)
-{
-    size_t count = 1 + below(w, most), from = 0;
-    for (size_t i = 0; i < count; i++) {
-        size_t to = i + 1 == count ? length : from + below(w, length - from + 1);
-        pieces[i] = (struct zk_piece){ w->data + from, to - from };
-        from = to;
-    }
-    return count;
-}
-
 /* Polls until the command is done. Meanwhile the port is asked for other things, and sometimes closed. */
 static bool finish(struct worker *w, struct space *s, const uint8_t *entries, const struct expected *x, size_t length)
 {
@@ -500,10 +486,7 @@ static bool finish(struct worker *w, struct space *s, const uint8_t *entries, co
             return judge_code(w, "close meanwhile", entries, zk_close(s->port), BIT(ZK_DONE));
         }
         bool bad = told_given != told_length || given < room;
-        struct zk_piece pieces[MOST_PIECES];
-        size_t count = cut_up(w, given, pieces, x->in_pieces ? MOST_PIECES : 1);
-        int code = x->in_pieces || below(w, 4) == 0 ? zk_poll_pieces(s->port, pieces, count, told, told_given)
-                                                    : zk_poll(s->port, w->data, given, told, told_given);
+        int code = zk_poll(s->port, w->data, given, told, told_given);
         if (!judge_code(w, "poll", entries, code, bad ? BIT(ZK_BAD_LENGTH) : BIT(ZK_DONE) | BIT(ZK_PENDING)))
             return false;
         if (code == ZK_DONE)
@@ -625,18 +608,10 @@ static bool try_submit(struct worker *w, struct space *s)
         cut = c.called <= length && below(w, 16) ? c.called : below(w, length + 1);
     struct expected x;
     expect(s, entries, entries_length, w->before, length, cut, told_length, &x);
-    struct zk_piece pieces[MOST_PIECES];
-    size_t count = cut_up(w, length, pieces, MOST_PIECES);
-    struct zk_piece pieces_before[MOST_PIECES];
-    memcpy(pieces_before, pieces, count * sizeof *pieces);
-    x.in_pieces = cut == UNCUT && below(w, 3) == 0;
-    int code = x.in_pieces ? zk_submit_pieces(s->port, entries, entries_length, pieces, count, told, told_length)
-        : cut == UNCUT ? zk_submit(s->port, entries, entries_length, w->data, length, told, told_length)
-                       : zk_submit_pair(s->port, entries, entries_length, w->data, cut, w->data + cut, length - cut, told, told_length);
+    int code = cut == UNCUT ? zk_submit(s->port, entries, entries_length, w->data, length, told, told_length)
+                            : zk_submit_pair(s->port, entries, entries_length, w->data, cut, w->data + cut, length - cut, told, told_length);
     if (!judge_code(w, "submit", entries, code, x.codes))
         return false;
-    if (memcmp(pieces_before, pieces, count * sizeof *pieces) != 0)
-        return wrong(w, "the list of pieces changed", entries, 1, 0);
     if (code != ZK_DONE && !is_same(w, "written by a submit", entries, told, told_before, sizeof told, length))
         return false;
     if (code == ZK_PENDING)
@@ -729,9 +704,7 @@ static bool try_idle_poll(struct worker *w, struct space *s)
     size_t length = below(w, 8192);
     memset(w->data, 0x22, length);
     memcpy(w->before, w->data, length);
-    struct zk_piece pieces[MOST_PIECES];
-    size_t count = cut_up(w, length, pieces, MOST_PIECES), told_given = below(w, sizeof told + 1);
-    int code = below(w, 2) ? zk_poll(s->port, w->data, length, told, told_given) : zk_poll_pieces(s->port, pieces, count, told, told_given);
+    int code = zk_poll(s->port, w->data, length, told, below(w, sizeof told + 1));
     return judge_code(w, "idle poll", NULL, code, s->open ? BIT(ZK_IDLE) : BIT(ZK_NOT_OPEN))
         && is_same(w, "written by an idle poll", NULL, told, told_before, sizeof told, length);
 }

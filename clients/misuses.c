@@ -35,7 +35,7 @@ enum state {
     RECORDED_STARVED
 };
 
-enum call { OPENS, CLOSES, SUBMITS, SUBMITS_PAIR, SUBMITS_PIECES, POLLS, POLLS_PIECES, IDENTIFIES, IDENTIFIES_NAMESPACE, READS_NOW, RECORDS, RECORDS_PART };
+enum call { OPENS, CLOSES, SUBMITS, SUBMITS_PAIR, POLLS, IDENTIFIES, IDENTIFIES_NAMESPACE, READS_NOW, RECORDS, RECORDS_PART };
 
 struct row {
     int code;
@@ -58,10 +58,6 @@ struct row {
 #define PAIR_ROW(code, state, misuse, entries, compared, written, completions, first, second) \
     { code, SUBMITS_PAIR, state, misuse, entries, compared, completions, first, second, { 64, BLOCK, 7, 0, 7, 7 }, written }
 #define POLL_ROW(code, state, misuse, data, completions) { code, POLLS, state, misuse, 0, data, completions, 0, 0, USUAL }
-/* The data in three pieces, of which the second has no bytes. */
-#define PIECES_ROW(code, state, misuse, entries, data, completions, first, second) \
-    { code, SUBMITS_PIECES, state, misuse, entries, data, completions, first, second, USUAL }
-#define POLL_PIECES_ROW(code, state, misuse, data, completions) { code, POLLS_PIECES, state, misuse, 0, data, completions, 0, 0, USUAL }
 #define IDENTIFY_ROW(code, state, misuse, data) { code, IDENTIFIES, state, misuse, 0, data, 0, 0, 0, USUAL }
 #define NAMESPACE_ROW(code, state, misuse, data, ...) { code, IDENTIFIES_NAMESPACE, state, misuse, 0, data, 0, 0, 0, { __VA_ARGS__ }, 0 }
 #define READ_NOW_ROW(code, state, misuse, slba, nlb, data) { code, READS_NOW, state, misuse, 0, data, 0, slba, nlb, USUAL }
@@ -195,30 +191,6 @@ static const struct row rows[] = {
     SUBMIT_ROW(ZK_PENDING, TAKEN, "a Write while the unit is held", 64, BLOCK, 16, WRITE, 0),
     SUBMIT_ROW(ZK_PENDING, TAKEN, "a Read while the unit is held", 64, BLOCK, 16, READ, 0),
     SUBMIT_ROW(ZK_DONE, TAKEN, "an unknown opcode while the unit is held", 64, 0, 16, 0x7f, 0),
-    PIECES_ROW(ZK_NOT_OPEN, SHUT, "pieces to a port that was never opened", 64, BLOCK, 16, WRITE, 0),
-    PIECES_ROW(ZK_BUSY, PENDING, "pieces while a command is pending", 64, BLOCK, 16, WRITE, 0),
-    PIECES_ROW(ZK_BAD_LENGTH, OPEN, "pieces with an entry of 63 bytes", 63, BLOCK, 16, WRITE, 0),
-    PIECES_ROW(ZK_BAD_LENGTH, OPEN, "pieces of a Write with a byte too few", 64, BLOCK - 1, 16, WRITE, 0),
-    PIECES_ROW(ZK_BAD_LENGTH, OPEN, "pieces of a Write with a byte too many", 64, BLOCK + 1, 16, WRITE, 0),
-    PIECES_ROW(ZK_BAD_LENGTH, OPEN, "pieces of a Read with a byte too few", 64, BLOCK - 1, 16, READ, 0),
-    PIECES_ROW(ZK_BAD_LENGTH, OPEN, "pieces of a pair with a byte too many", 128, 2 * BLOCK + 1, 32, FIRST(COMPARE), SECOND_OF(WRITE)),
-    PIECES_ROW(ZK_BAD_LENGTH, RECORDED, "pieces of ranges with a byte too few", 64, RANGE_BYTES - 1, 16, DATASET_MANAGEMENT, 0),
-    PIECES_ROW(ZK_BAD_LENGTH, OPEN, "pieces with room for two completions", 64, BLOCK, 32, WRITE, 0),
-    PIECES_ROW(ZK_NO_PAIR, OPEN, "pieces of two entries that aren't fused", 128, 2 * BLOCK, 32, WRITE, WRITE),
-    PIECES_ROW(ZK_NO_MEMORY, STARVED, "pieces of a Write without memory", 64, BLOCK, 16, WRITE, 0),
-    PIECES_ROW(ZK_NO_MEMORY, STARVED, "pieces of a pair without memory", 128, 2 * BLOCK, 32, FIRST(COMPARE), SECOND_OF(WRITE)),
-    PIECES_ROW(ZK_NO_MEMORY, STARVED, "pieces of ranges without memory", 64, RANGE_BYTES, 16, DATASET_MANAGEMENT, 0),
-    PIECES_ROW(ZK_PENDING, TAKEN, "pieces of a Write while the unit is held", 64, BLOCK, 16, WRITE, 0),
-    PIECES_ROW(ZK_PENDING, TAKEN, "pieces of a Read while the unit is held", 64, BLOCK, 16, READ, 0),
-    PIECES_ROW(ZK_PENDING, TAKEN, "pieces of a pair while the unit is held", 128, 2 * BLOCK, 32, FIRST(COMPARE), SECOND_OF(WRITE)),
-    PIECES_ROW(ZK_DONE, OPEN, "pieces of a Write", 64, BLOCK, 16, WRITE, 0),
-    PIECES_ROW(ZK_DONE, OPEN, "pieces of a pair", 128, 2 * BLOCK, 32, FIRST(COMPARE), SECOND_OF(WRITE)),
-    PIECES_ROW(ZK_DONE, OPEN, "pieces of ranges", 64, RANGE_BYTES, 16, DATASET_MANAGEMENT, 0),
-    POLL_PIECES_ROW(ZK_NOT_OPEN, SHUT, "poll in pieces of a port that was never opened", BLOCK, 16),
-    POLL_PIECES_ROW(ZK_IDLE, OPEN, "poll in pieces of an idle port", BLOCK, 16),
-    POLL_PIECES_ROW(ZK_BAD_LENGTH, PENDING, "poll in pieces of a Read with too little room", 2 * BLOCK - 1, 16),
-    POLL_PIECES_ROW(ZK_BAD_LENGTH, PENDING, "poll in pieces with a completion of 15 bytes", 2 * BLOCK, 15),
-    POLL_PIECES_ROW(ZK_PENDING, WRITING, "poll in pieces of a Write", BLOCK, 16),
     POLL_ROW(ZK_PENDING, PENDING, "poll while the unit is held", 2 * BLOCK, 16),
     POLL_ROW(ZK_PENDING, WRITING, "poll of a Write without its data", 0, 16),
     SUBMIT_ROW(ZK_DONE, OPEN, "a Write", 64, BLOCK, 16, WRITE, 0),
@@ -424,8 +396,6 @@ static int call(const struct row *row, struct written *written)
     entry_of(entries, (uint8_t)row->first, (uint8_t)(row->first >> 8), 1, 0, 1);
     entry_of(entries + ZK_ENTRY_BYTES, (uint8_t)row->second, (uint8_t)(row->second >> 8), 2, 0, 1);
     entry_of(entries + 2 * ZK_ENTRY_BYTES, WRITE, 0, 3, 0, 1);
-    size_t cut = row->data / 3;
-    struct zk_piece pieces[3] = { { written->data, cut }, { written->data + cut, 0 }, { written->data + cut, row->data - cut } };
     switch (row->call) {
     case OPENS:
         return zk_open(ports, row->entries, &row->ns, row->limit, true);
@@ -436,10 +406,6 @@ static int call(const struct row *row, struct written *written)
     case SUBMITS_PAIR:
         return zk_submit_pair(ports, entries, row->entries, written->data, row->data, written->data + row->data, row->limit, written->completions,
                               row->completions);
-    case SUBMITS_PIECES:
-        return zk_submit_pieces(ports, entries, row->entries, pieces, 3, written->completions, row->completions);
-    case POLLS_PIECES:
-        return zk_poll_pieces(ports, pieces, 3, written->completions, row->completions);
     case POLLS:
         return zk_poll(ports, written->data, row->data, written->completions, row->completions);
     case IDENTIFIES:
@@ -528,7 +494,6 @@ static bool nulls_are_answered(void)
     if (!open_all(true))
         return false;
     struct zk_port *port = ports;
-    struct zk_piece whole = { block, BLOCK }, missing = { NULL, BLOCK };
     const struct { const char *misuse; int code, answer; } calls[] = {
         { "open of NULL", ZK_BAD_PORTS, zk_open(NULL, 1, &usual, ZK_NO_LIMIT, true) },
         { "open of a NULL namespace", ZK_BAD_NAMESPACE, zk_open(&ports[PORTS], 1, NULL, ZK_NO_LIMIT, true) },
@@ -545,17 +510,6 @@ static bool nulls_are_answered(void)
         { "a pair's second piece NULL", ZK_BAD_LENGTH, zk_submit_pair(port, pair, sizeof pair, block, BLOCK, NULL, BLOCK, both, sizeof both) },
         { "a pair in pieces with NULL for its completions", ZK_BAD_LENGTH, zk_submit_pair(port, pair, sizeof pair, block, BLOCK, block, BLOCK, NULL, sizeof both) },
         { "a pair whose pieces are the same bytes", ZK_DONE, zk_submit_pair(port, pair, sizeof pair, block, BLOCK, block, BLOCK, both, sizeof both) },
-        { "pieces to NULL", ZK_NOT_OPEN, zk_submit_pieces(NULL, entry, sizeof entry, &whole, 1, told, sizeof told) },
-        { "pieces with entries of NULL", ZK_BAD_LENGTH, zk_submit_pieces(port, NULL, sizeof entry, &whole, 1, told, sizeof told) },
-        { "pieces that are NULL", ZK_BAD_LENGTH, zk_submit_pieces(port, entry, sizeof entry, NULL, 1, told, sizeof told) },
-        { "a piece of NULL", ZK_BAD_LENGTH, zk_submit_pieces(port, entry, sizeof entry, &missing, 1, told, sizeof told) },
-        { "pieces with NULL for the completion", ZK_BAD_LENGTH, zk_submit_pieces(port, entry, sizeof entry, &whole, 1, NULL, sizeof told) },
-        { "a Write of no pieces", ZK_BAD_LENGTH, zk_submit_pieces(port, entry, sizeof entry, NULL, 0, told, sizeof told) },
-        { "Write Zeroes of no pieces", ZK_DONE, zk_submit_pieces(port, zeroes, sizeof zeroes, NULL, 0, told, sizeof told) },
-        { "a Write of a piece", ZK_DONE, zk_submit_pieces(port, entry, sizeof entry, &whole, 1, told, sizeof told) },
-        { "poll of NULL in pieces", ZK_NOT_OPEN, zk_poll_pieces(NULL, &whole, 1, told, sizeof told) },
-        { "poll of pieces that are NULL", ZK_BAD_LENGTH, zk_poll_pieces(port, NULL, 1, told, sizeof told) },
-        { "poll of an idle port in no pieces", ZK_IDLE, zk_poll_pieces(port, NULL, 0, told, sizeof told) },
         { "poll of NULL", ZK_NOT_OPEN, zk_poll(NULL, block, BLOCK, told, sizeof told) },
         { "poll with NULL for its completion", ZK_BAD_LENGTH, zk_poll(port, block, BLOCK, NULL, sizeof told) },
         { "poll of an idle port with NULL for its data", ZK_IDLE, zk_poll(port, NULL, 0, told, sizeof told) },

@@ -37,7 +37,7 @@ extern "C" {
 #endif
 
 /* The version of this header, and the number behind libzalkvorn.so. The library's, zk_version(), must be equal. */
-#define ZK_VERSION 8
+#define ZK_VERSION 7
 
 /* The most blocks of a namespace, and of one that is recorded. */
 #define ZK_MOST_BLOCKS (UINT64_C(1) << 40)
@@ -194,21 +194,6 @@ int zk_submit_pair(struct zk_port *port, const uint8_t *entries, size_t entries_
                    size_t compared_length, const uint8_t *written, size_t written_length, uint8_t *completions,
                    size_t completions_length);
 
-/* A piece of a command's data, as of a host's PRPs, an SGL or an iovec: `length` bytes at `bytes`. */
-struct zk_piece {
-    uint8_t *bytes;
-    size_t length;
-};
-
-/* As zk_submit, with data that lies in `count` pieces, one behind the other: they may be cut anywhere, and a piece may have no
- * bytes. Their lengths together are what zk_data_length gives. Only a Read's are written. So nobody gathers a command's data, or
- * scatters what it read, before the library does: a Write is copied once, as each command in several units is by zk_submit, which
- * doesn't copy one in one unit. With one piece call zk_submit. A Write, Compare or pair takes memory for its data.
- * Answers as zk_submit does of the pieces behind each other, and ZK_BAD_LENGTH where a piece is NULL. zk_poll_pieces goes on.
- * Threads: as zk_submit. */
-int zk_submit_pieces(struct zk_port *port, const uint8_t *entries, size_t entries_length, struct zk_piece *pieces, size_t count,
-                     uint8_t *completions, size_t completions_length);
-
 /* The one length of `data` that zk_submit takes with `count` entries, 1 or 2, in a namespace of blocks of `block_size` bytes: NLB
  * + 1 blocks for a Write, Compare or Read, 16 bytes for each of the NR + 1 ranges of a Dataset Management, and 0 for any other
  * opcode. Of two entries it is the sum, in which a Read has nothing. It is the same where the command is refused later. Linux's
@@ -225,11 +210,6 @@ size_t zk_data_length(const uint8_t *entries, size_t count, uint32_t block_size)
  * ZK_DONE and ZK_PENDING as in zk_submit. ZK_NOT_OPEN, ZK_IDLE, ZK_BAD_LENGTH: a pending command is still pending.
  * Threads: as zk_submit. */
 int zk_poll(struct zk_port *port, uint8_t *data, size_t data_length, uint8_t *completions, size_t completions_length);
-
-/* As zk_poll, with room for a Read's blocks in pieces, cut anywhere. A Read that zk_submit began has one piece: with more or none
- * it is ZK_BAD_LENGTH.
- * Threads: as zk_submit. */
-int zk_poll_pieces(struct zk_port *port, struct zk_piece *pieces, size_t count, uint8_t *completions, size_t completions_length);
 
 /* Writes the Identify Namespace data structure of the port's namespace into `data`, of ZK_IDENTIFY_BYTES: NSZE, NAWUN, NACWU,
  * NABSN and NABO, bit 1 of NSFEAT, which says that the namespace has atomic limits of its own, and else bytes of 0. It never
@@ -391,25 +371,6 @@ static inline int zk_submit_pair_or_null(struct zk_port *port, const uint8_t *en
                           written_length, completions, completions_length);
 }
 
-static inline bool zk_is_without_null(const struct zk_piece *pieces, size_t count)
-{
-    for (size_t i = 0; pieces && i < count; i++)
-        if (!pieces[i].bytes)
-            return false;
-    return pieces || !count;
-}
-
-static inline int zk_submit_pieces_or_null(struct zk_port *port, const uint8_t *entries, size_t entries_length, struct zk_piece *pieces,
-                                           size_t count, uint8_t *completions, size_t completions_length)
-{
-    struct zk_piece none;
-    if (!port)
-        return ZK_NOT_OPEN;
-    if (!entries || !completions || !zk_is_without_null(pieces, count))
-        return ZK_BAD_LENGTH;
-    return zk_submit_pieces(port, entries, entries_length, pieces ? pieces : &none, count, completions, completions_length);
-}
-
 static inline size_t zk_data_length_or_null(const uint8_t *entries, size_t count, uint32_t block_size)
 {
     return !entries ? ZK_NO_LENGTH : zk_data_length(entries, count, block_size);
@@ -424,17 +385,6 @@ static inline int zk_poll_or_null(struct zk_port *port, uint8_t *data, size_t da
     if (!completions || (!data && data_length))
         return ZK_BAD_LENGTH;
     return zk_poll(port, data ? data : &none, data_length, completions, completions_length);
-}
-
-static inline int zk_poll_pieces_or_null(struct zk_port *port, struct zk_piece *pieces, size_t count, uint8_t *completions,
-                                         size_t completions_length)
-{
-    struct zk_piece none;
-    if (!port)
-        return ZK_NOT_OPEN;
-    if (!completions || !zk_is_without_null(pieces, count))
-        return ZK_BAD_LENGTH;
-    return zk_poll_pieces(port, pieces ? pieces : &none, count, completions, completions_length);
 }
 
 static inline int zk_identify_or_null(struct zk_port *port, uint8_t *data, size_t data_length)
@@ -503,10 +453,8 @@ static inline int zk_record_part_or_null(struct zk_port *ports, size_t count, ui
 #define zk_close zk_close_or_null
 #define zk_submit zk_submit_or_null
 #define zk_submit_pair zk_submit_pair_or_null
-#define zk_submit_pieces zk_submit_pieces_or_null
 #define zk_data_length zk_data_length_or_null
 #define zk_poll zk_poll_or_null
-#define zk_poll_pieces zk_poll_pieces_or_null
 #define zk_identify zk_identify_or_null
 #define zk_identify_namespace zk_identify_namespace_or_null
 #define zk_read_now zk_read_now_or_null

@@ -100,21 +100,13 @@ buffer_told told front room new (inr none) is same =
     ap (λ (l : List ℕ). l ++ new) none ∙ read_over (data_in told) room new is same ∙ ap (λ (l : List ℕ). overwritten l room) (sym (read_told told))
     ∙ ap (λ (l : List ℕ). overwritten (read_by told) (l ++ room)) (sym none)
 
--- What is told of a pair reads nothing.
-pub two_read_nothing : (told : Completions) → told_length told ≡ 32 → read_by told ≡ []
-two_read_nothing (One c) two = absurd (omega (arith, two))
-two_read_nothing (Two c d) two = refl
-
--- What is told of a job changes nothing before the buffer, if something is there: then it reads nothing.
-pub told_behind : (told : Completions) (sent : List ℕ) {old new posted posted' : List ℕ} → (sent ≡ []) ⊎ (read_by told ≡ []) → AreTold told old new posted posted'
+-- What is told of a job changes nothing before the buffer, if something is there: then it is a pair, which reads nothing.
+pub told_behind : (told : Completions) (sent : List ℕ) {old new posted posted' : List ℕ} → (sent ≡ []) ⊎ (told_length told ≡ 32) → AreTold told old new posted posted'
     → AreTold told (sent ++ old) (sent ++ new) posted posted'
 told_behind told sent {old} {new} {posted} {posted'} (inl none) are = subst (λ (l : List ℕ). AreTold told (l ++ old) (l ++ new) posted posted') (sym none) are
-told_behind told sent {old} (inr none) are =
-    record {
-      entries = are.entries;
-      read = ap (λ (l : List ℕ). sent ++ l) (are.read ∙ ap (λ (l : List ℕ). overwritten l old) none ∙ sym (over_none old)) ∙ over_none (sent ++ old)
-          ∙ ap (λ (l : List ℕ). overwritten l (sent ++ old)) (sym none);
-    }
+told_behind (One c) sent (inr two) are = absurd (omega (arith, two))
+told_behind (Two c d) sent {old} (inr two) are =
+    record { entries = are.entries; read = ap (λ (l : List ℕ). sent ++ l) (are.read ∙ sym (over_none old)) ∙ over_none (sent ++ old) }
 
 front_over : (read : Option (List ℕ)) (buffer front new : List ℕ) (room : ℕ) → front ≡ take room buffer → room ≤ length buffer
     → new ≡ unwrap_or read front → length new ≡ length front → new ++ drop room buffer ≡ overwritten (unwrap_or read []) buffer

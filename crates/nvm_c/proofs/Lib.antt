@@ -1,9 +1,7 @@
-pub mod DataPieces
 pub mod Ports
 pub mod Steps
 pub mod AtOnce
 pub mod ThreeBits
-pub mod Unread
 pub mod Words
 pub mod Places
 pub mod Answered

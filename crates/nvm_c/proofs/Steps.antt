@@ -9,7 +9,7 @@ use Rattle.nvm_c.specs.Engines.{seen_by, space_of}
 use Rattle.nvm_c.specs.Logs.{LogState}
 use Rattle.nvm_c.specs.Pending.{HasBegun}
 use Rattle.nvm_c.specs.Submitted.{Buffers, Begins, GoesOn, Polls, Progresses, Submits}
-use Rattle.nvm_c.specs.Told.{read_by}
+use Rattle.nvm_c.specs.Told.{posted_length, told_length}
 use Rattle.nvm_c.specs.declared.code.Code.{Code}
 use Rattle.nvm_c.specs.declared.code.Code.TheVariants.{Done, Pending, NotOpen, IsOpen, NoMemory, BadNamespace, BadPorts, BadLimit, BadLength, NoPair, Busy, Idle, Newer, OutOfRange, Crosses, NoVersions}
 use Rattle.nvm_c.specs.declared.engine.Engine.{Engine}
@@ -17,7 +17,7 @@ use Rattle.nvm_c.specs.declared.engine.Pending.{Pending as PendingJob}
 use Rattle.nvm_c.proofs.AtOnce.{told_behind}
 
 -- the other of two, turned
-pub or_else : {A B C : Type 0} → (B → C) → A ⊎ B → A ⊎ C
+or_else : {A B C : Type 0} → (B → C) → A ⊎ B → A ⊎ C
 or_else f (inl a) = inl a
 or_else f (inr b) = inr (f b)
 
@@ -78,10 +78,10 @@ submits_alone code e e' entries sent room room' posted posted' none none' is =
     subst (λ (l : List ℕ). Submits code e e' entries (let old : Buffers = record { bytes = l; posted = posted } in old) (let new : Buffers = record { bytes = sent; posted = posted' } in new)) end
     (subst (λ (l : List ℕ). Submits code e e' entries (let old : Buffers = record { bytes = sent ++ room; posted = posted } in old) (let new : Buffers = record { bytes = l; posted = posted' } in new)) end' is)
 
--- The bytes before the buffer stay as they were, if there are any: then the job reads nothing.
+-- The bytes before the buffer stay as they were, if there are any: then the job is a pair.
 module _ (s : SpaceName) (number : ℕ) (job : Job) (start now : List PassView) (pending : Option PendingJob) (log log' : Option LogState)
-    (sent old new posted posted' : List ℕ)
-    (quiet : (told : JobDone) → DoesJob s.namespace s.lists number job start now told → (sent ≡ []) ⊎ (read_by told.completions ≡ [])) where
+    (sent old new posted posted' : List ℕ) (each : (told : JobDone) → DoesJob s.namespace s.lists number job start now told → told_length told.completions ≡ posted_length job.body)
+    (either : (sent ≡ []) ⊎ (posted_length job.body ≡ 32)) where
   abbrev Goes : (code : Code) → List ℕ → List ℕ → Type 0
   Goes code bytes bytes' = Progresses code s number job start now pending log log' (record { bytes = bytes; posted = posted }) (record { bytes = bytes'; posted = posted' })
 
@@ -90,7 +90,7 @@ module _ (s : SpaceName) (number : ℕ) (job : Job) (start now : List PassView) 
       record {
         told = is.told;
         does = is.does;
-        buffers = told_behind is.told.completions sent (quiet is.told is.does) is.buffers;
+        buffers = told_behind is.told.completions sent (or_else (λ two. each is.told is.does ∙ two) either) is.buffers;
         idle = is.idle;
         kept = is.kept;
       }

@@ -7,7 +7,6 @@ pub mod Opening
 pub mod Asked
 pub mod Refused
 pub mod Carried
-pub mod DataPieces
 pub mod Told
 pub mod Submitted
 pub mod Exports

@@ -7,14 +7,12 @@ ghost use Rattle.nvm_record.specs.Entry.{IsSpelling, IsWhole, called_for, data_l
 ghost use Rattle.nvm_record.specs.Op.{carries_ranges};
 ghost use Rattle.nvm_plan.specs.OnlyPart.{command_lent};
 ghost use Rattle.nvm_plan.specs.Fits.{FitsNamespace};
-ghost use Rattle.nvm_c.specs.DataPieces.{bytes_of};
 ghost use Rattle.nvm_c.specs.Asked as spec;
 ghost use Rattle.nvm_c.specs.Asked.{IsAsked, IsAskedAlone};
 ghost use Rattle.nvm_c.specs.Refused.{IsRefusal};
 ghost use Rattle.nvm_c.specs.Told.{posted_length};
 
 use crate::code::Code;
-use crate::data_piece::{DataPiece, gathered, length_up_to};
 use nvm_geometry::LargeGeometry;
 use nvm_plan::{Body, Job, fits};
 use nvm_record::{
@@ -29,16 +27,16 @@ pub(crate) fn asked_job(
     geometry: &LargeGeometry,
     host: u16,
     entries: &[u8],
-    pieces: &[DataPiece<'_>],
+    buffer: &[u8],
 ) -> Result<Job, Code>
-    ensures asked { IfOk result (λ job. IsAsked geometry.now.block_size host entries.now (bytes_of pieces.now) job) }
+    ensures asked { IfOk result (λ job. IsAsked geometry.now.block_size host entries.now buffer.now job) }
     ensures fits { IfOk result (λ job. FitsNamespace geometry.now job) }
     ensures refused { IfErr result IsRefusal }
 {
     if entries.len() != 64 {
         return Err(Code::BadLength);
     }
-    let command = asked_alone(alloc, geometry.block_size(), entries, pieces)?;
+    let command = asked_alone(alloc, geometry.block_size(), entries, buffer)?;
     let job = Job {
         host,
         body: Body::Single(command),
@@ -105,56 +103,25 @@ pub(crate) fn plain_fields(entry: &[u8]) -> EntryFields
     entry_fields(entry)
 }
 
-/// The command of an entry by itself. The pieces are room for what a Read reads, and data of any other.
-fn asked_alone(
-    alloc: Global,
-    size: BlockSize,
-    entry: &[u8],
-    pieces: &[DataPiece<'_>],
-) -> Result<Command, Code>
+/// The command of an entry by itself. The buffer is room for what a Read reads, and data of any other.
+fn asked_alone(alloc: Global, size: BlockSize, entry: &[u8], buffer: &[u8]) -> Result<Command, Code>
     requires { length entry.now ≡ 64 }
-    ensures asked { IfOk result (λ c. IsAskedAlone size entry.now (bytes_of pieces.now) c) }
+    ensures asked { IfOk result (λ c. IsAskedAlone size entry.now buffer.now c) }
     ensures whole { IfOk result (λ c. IsWhole size c) }
     ensures refused { IfErr result IsRefusal }
 {
     let fields = entry_fields(entry);
-    if !reads(fields.op) {
-        return command_of_pieces(alloc, size, entry, pieces);
-    }
-    let room = room(fields.op, fields.nlb, size);
-    if length_up_to(pieces, room + 1) != room {
+    if reads(fields.op) && buffer.len() != room(fields.op, fields.nlb, size) {
         return Err(Code::BadLength);
     }
-    command_of(alloc, size, entry, &[])
+    command_of(alloc, size, entry, sent_with(fields.op, buffer))
 }
 
-/// The command of the entry and the data in these pieces, which has to be as long as it calls for.
-fn command_of_pieces(
-    alloc: Global,
-    size: BlockSize,
-    entry: &[u8],
-    pieces: &[DataPiece<'_>],
-) -> Result<Command, Code>
-    requires { length entry.now ≡ 64 }
-    ensures spelled { IfOk result (λ c. IsSpelling size (entry.now ++ bytes_of pieces.now) c) }
-    ensures whole { IfOk result (λ c. IsWhole size c) }
-    ensures refused { IfErr result IsRefusal }
+/// What of the buffer goes with a command: nothing with a Read.
+fn sent_with(op: Op, buffer: &[u8]) -> &[u8]
+    ensures { result.now ≡ spec.sent_with op buffer.now }
 {
-    let fields = plain_fields(entry);
-    let count = fields.op.data_length(fields.nlb, fields.nr, size);
-    if length_up_to(pieces, count + 1) != count {
-        return Err(Code::BadLength);
-    }
-    let ranges = fields.op.carries_ranges();
-    let front: &[u8] = if ranges { entry } else { &[] };
-    let Ok(bytes) = gathered(alloc, front, pieces, count) else {
-        return Err(Code::NoMemory);
-    };
-    if ranges {
-        command_in(alloc, size, &bytes)
-    } else {
-        Ok(command_with(&fields, bytes))
-    }
+    if reads(op) { &[] } else { buffer }
 }
 
 /// Whether it is a Read, for which the buffer is room.
@@ -236,16 +203,7 @@ fn command_of_ranges(
     let Ok(bytes) = joined(alloc, entry, ranges) else {
         return Err(Code::NoMemory);
     };
-    command_in(alloc, size, &bytes)
-}
-
-/// The command that these bytes spell.
-fn command_in(alloc: Global, size: BlockSize, bytes: &Payload) -> Result<Command, Code>
-    ensures spelled { IfOk result (λ c. IsSpelling size bytes.now c) }
-    ensures whole { IfOk result (λ c. IsWhole size c) }
-    ensures refused { IfErr result IsRefusal }
-{
-    match read_command(alloc, bytes, size) {
+    match read_command(alloc, &bytes, size) {
         Ok((command, rest)) => {
             if rest.is_empty() {
                 Ok(command)

@@ -10,16 +10,14 @@ ghost use Rattle.nvm_space.specs.Trace.{DoesJob};
 ghost use Rattle.nvm_space.specs.UnderWay.{IsUnderWay};
 ghost use Rattle.nvm_space.specs.declared.job_done.JobDone.{JobDone as Told};
 ghost use Rattle.nvm_c.specs.Asked.{IsAsked, room_of};
-ghost use Rattle.nvm_c.specs.DataPieces.{bytes_of};
 ghost use Rattle.nvm_c.specs.Engines.{IsSound, namespace_of, seen_by, space_of};
 ghost use Rattle.nvm_c.specs.Logs.{HasRoomIn, kept_by};
 ghost use Rattle.nvm_c.specs.Pending.{pending_job};
 ghost use Rattle.nvm_c.specs.Submitted.{Polls, Progresses, Submits};
 ghost use Rattle.nvm_c.specs.Told.{FitEntries, posted_length, told_length};
 
-use crate::asking::{is_plain, room};
+use crate::asking::{asked_job, is_plain, room};
 use crate::code::Code;
-use crate::data_piece::{DataPiece, length_up_to};
 use crate::log::{Log, draw, keep};
 use crate::quiet::Quiet;
 use crate::telling::{entries_length, tell};
@@ -87,13 +85,40 @@ impl Engine {
         self.submit_job(alloc, host, entries, data, posted)
     }
 
+    /// Makes the job that one entry asks for, and begins it.
+    // Not inlined, since a command that is done at once would clear the room that this takes.
+    #[inline(never)]
+    pub(crate) fn submit_job(
+        &mut self,
+        alloc: Global,
+        host: u16,
+        entries: &[u8],
+        data: &mut [u8],
+        posted: &mut [u8],
+    ) -> Code
+        requires sound { IsSound self.old }
+        requires idle { self.old.pending ≡ None }
+        requires host { host ≡ self.old.port.number + 1 }
+        ensures sound { IsSound self.new }
+        ensures submits { Submits result self.old self.new entries.now
+            (record { bytes = data.old; posted = posted.old }) (record { bytes = data.new; posted = posted.new }) }
+    {
+        match asked_job(alloc, &self.space.geometry(), host, entries, data) {
+            Ok(job) => {
+                let mut held = Some(job);
+                self.begin(alloc, &mut held, data, posted)
+            }
+            Err(code) => code,
+        }
+    }
+
     /// Begins a job that entries ask for, and goes on with it. The job is taken if it is kept or pending then. Else it stays where it is
     /// held, so that it isn't moved. A pair's data needn't be there.
     pub(crate) fn begin(
         &mut self,
         alloc: Global,
         held: &mut Option<Job>,
-        pieces: &mut [DataPiece<'_>],
+        data: &mut [u8],
         posted: &mut [u8],
     ) -> Code
         requires sound { IsSound self.old }
@@ -102,9 +127,9 @@ impl Engine {
         requires fits { IfSome held.old (λ job. FitsNamespace (namespace_of self.old) job) }
         ensures sound { IsSound self.new }
         ensures submits { IfSome held.old (λ job. (entries sent : List ℕ) → (sent ≡ []) ⊎ (posted_length job.body ≡ 32)
-            → IsAsked (namespace_of self.old).block_size (self.old.port.number + 1) entries (sent ++ bytes_of pieces.old) job
+            → IsAsked (namespace_of self.old).block_size (self.old.port.number + 1) entries (sent ++ data.old) job
             → Submits result self.old self.new entries
-            (record { bytes = sent ++ bytes_of pieces.old; posted = posted.old }) (record { bytes = sent ++ bytes_of pieces.new; posted = posted.new })) }
+            (record { bytes = sent ++ data.old; posted = posted.old }) (record { bytes = sent ++ data.new; posted = posted.new })) }
     {
         told_statuses_fit_their_entries();
         let Some(job) = &*held else {
@@ -118,33 +143,28 @@ impl Engine {
         };
         match self.space.begin_job(alloc, number, job) {
             Progress::Done(done) => {
-                tell(&done.completions, pieces, posted);
+                tell(&done.completions, data, posted);
                 keep(&mut self.log, number, held, done);
                 Code::Done
             }
             Progress::Pending(under_way) => {
-                self.go_on(alloc, number, held, under_way, pieces, posted)
+                self.go_on(alloc, number, held, under_way, data, posted)
             }
         }
     }
 
     /// Goes on with the job that is pending.
-    pub(crate) fn poll(
-        &mut self,
-        alloc: Global,
-        pieces: &mut [DataPiece<'_>],
-        posted: &mut [u8],
-    ) -> Code
+    pub(crate) fn poll(&mut self, alloc: Global, data: &mut [u8], posted: &mut [u8]) -> Code
         requires { IsSound self.old }
         ensures sound { IsSound self.new }
         ensures polls { Polls result self.old self.new
-            (record { bytes = bytes_of pieces.old; posted = posted.old }) (record { bytes = bytes_of pieces.new; posted = posted.new }) }
+            (record { bytes = data.old; posted = posted.old }) (record { bytes = data.new; posted = posted.new }) }
     {
         let Some(pending) = &self.pending else {
             return Code::Idle;
         };
         let room = pending.room(self.space.geometry().block_size());
-        if posted.len() != pending.entries_length() || length_up_to(pieces, room) < room {
+        if posted.len() != pending.entries_length() || data.len() < room {
             return Code::BadLength;
         }
         let Some(taken) = self.pending.take() else {
@@ -157,16 +177,9 @@ impl Engine {
                 under_way,
             } => {
                 let mut held = Some(job);
-                self.go_on(alloc, number, &mut held, under_way, pieces, posted)
+                self.go_on(alloc, number, &mut held, under_way, data, posted)
             }
-            Pending::Waiting(waiting) => match pieces {
-                [piece] => self.try_again(alloc, waiting, room, piece.bytes, posted),
-                _ if room == 0 => self.try_again(alloc, waiting, room, &mut [], posted),
-                _ => {
-                    self.pending = Some(Pending::Waiting(waiting));
-                    Code::BadLength
-                }
-            },
+            Pending::Waiting(waiting) => self.try_again(alloc, waiting, room, data, posted),
         }
     }
 
@@ -177,7 +190,7 @@ impl Engine {
         number: u32,
         held: &mut Option<Job>,
         under_way: JobUnderWay,
-        pieces: &mut [DataPiece<'_>],
+        data: &mut [u8],
         posted: &mut [u8],
     ) -> Code
         requires of { IsPortOf (space_of self.old) self.old.port }
@@ -197,7 +210,7 @@ impl Engine {
             → IsUnderWay (namespace_of self.old) (space_of self.old).lists job under_way start (seen_by self.old)
             → Progresses result (space_of self.old) number job start (seen_by self.new) self.new.pending
             (kept_by self.old.log) (kept_by self.new.log)
-            (record { bytes = bytes_of pieces.old; posted = posted.old }) (record { bytes = bytes_of pieces.new; posted = posted.new })) }
+            (record { bytes = data.old; posted = posted.old }) (record { bytes = data.new; posted = posted.new })) }
     {
         told_statuses_fit_their_entries();
         let Some(job) = &*held else {
@@ -208,7 +221,7 @@ impl Engine {
             .poll_job(alloc, &mut self.port, job, under_way, &Quiet)
         {
             Progress::Done(done) => {
-                tell(&done.completions, pieces, posted);
+                tell(&done.completions, data, posted);
                 keep(&mut self.log, number, held, done);
                 Code::Done
             }

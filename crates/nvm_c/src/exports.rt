@@ -5,7 +5,6 @@ ghost use Rattle.nvm_c.specs.Audited.{IsAudited};
 ghost use Rattle.nvm_record.specs.BlockSize.{IsBlockSize};
 ghost use Rattle.nvm_c.specs.Carried.{IsCarried, no_length};
 ghost use Rattle.nvm_c.specs.Codes.{number_of};
-ghost use Rattle.nvm_c.specs.DataPieces.{bytes_of};
 ghost use Rattle.nvm_c.specs.Exports.{Closes, PollsAt, SubmitsAt};
 ghost use Rattle.nvm_c.specs.Identify.{IdentifiesAt, IdentifiesNumbers};
 ghost use Rattle.nvm_c.specs.Opening.{Opens, engines_of, numbers_of};
@@ -24,14 +23,10 @@ ghost use Rattle.nvm_c.specs.declared.trace_code.TraceCode.{TraceCode as TraceAn
 
 use crate::auditing::audited;
 use crate::carried::carried;
-use crate::data_piece::DataPiece;
 use crate::handle::Handle;
 use crate::identify::identify_numbers;
 use crate::opening::{Numbers, open_ports};
-use crate::port_calls::{
-    closed, identified, polled, polled_in_pieces, read_now, submitted, submitted_in_pieces,
-    submitted_pair,
-};
+use crate::port_calls::{closed, identified, polled, read_now, submitted, submitted_in_pieces};
 use crate::reading::ReadStatus;
 use crate::recording::{record_part, record_ports};
 use crate::refuting::refuted;
@@ -40,7 +35,7 @@ use nvm_trace::Judging;
 use std::alloc::Global;
 
 /// The version of the header that goes with this library.
-const VERSION: u32 = 8;
+const VERSION: u32 = 7;
 
 /// The version of the header that goes with this library.
 #[unsafe(no_mangle)]
@@ -103,23 +98,7 @@ pub extern "C" fn zk_submit_pair(
         × SubmitsAt code port.old.held.engine port.new.held.engine entries.now
         (record { bytes = compared.now ++ written.now; posted = completions.old }) (record { bytes = compared.now ++ written.now; posted = completions.new }) }
 {
-    submitted_pair(alloc, port, entries, compared, written, completions).number()
-}
-
-/// As `zk_submit`, with data in any number of pieces, one behind the other.
-#[unsafe(no_mangle)]
-pub extern "C" fn zk_submit_pieces(
-    alloc: Global,
-    port: &mut Handle,
-    entries: &[u8],
-    pieces: &mut [DataPiece<'_>],
-    completions: &mut [u8],
-) -> i32
-    ensures { (code : Answer) × (result ≡ number_of code)
-        × SubmitsAt code port.old.held.engine port.new.held.engine entries.now
-        (record { bytes = bytes_of pieces.old; posted = completions.old }) (record { bytes = bytes_of pieces.new; posted = completions.new }) }
-{
-    submitted_in_pieces(alloc, port, entries, pieces, completions).number()
+    submitted_in_pieces(alloc, port, entries, compared, written, completions).number()
 }
 
 /// Goes on with the job that is pending in the port.
@@ -135,21 +114,6 @@ pub extern "C" fn zk_poll(
         (record { bytes = data.old; posted = completions.old }) (record { bytes = data.new; posted = completions.new }) }
 {
     polled(alloc, port, data, completions).number()
-}
-
-/// As `zk_poll`, with room in any number of pieces, one behind the other.
-#[unsafe(no_mangle)]
-pub extern "C" fn zk_poll_pieces(
-    alloc: Global,
-    port: &mut Handle,
-    pieces: &mut [DataPiece<'_>],
-    completions: &mut [u8],
-) -> i32
-    ensures { (code : Answer) × (result ≡ number_of code)
-        × PollsAt code port.old.held.engine port.new.held.engine
-        (record { bytes = bytes_of pieces.old; posted = completions.old }) (record { bytes = bytes_of pieces.new; posted = completions.new }) }
-{
-    polled_in_pieces(alloc, port, pieces, completions).number()
 }
 
 /// How many bytes of data `zk_submit` takes with one entry, or with two that are a fused pair, in a namespace whose blocks have so many.

@@ -16,7 +16,7 @@ use std::alloc::Global;
 
 impl Engine {
     /// As `submit`, with two entries whose data comes in two pieces.
-    pub(crate) fn submit_pair_apart(
+    pub(crate) fn submit_pieces(
         &mut self,
         alloc: Global,
         entries: &[u8],

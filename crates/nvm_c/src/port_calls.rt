@@ -1,12 +1,10 @@
 //! The calls on one port. Each takes the engine out of the handle, calls it, and puts it back, but for the one that closes. Where a handle has none, the port isn't open.
 ghost use Rattle.std.specs.Prelude.{◌++◌};
-ghost use Rattle.nvm_c.specs.DataPieces.{bytes_of};
 ghost use Rattle.nvm_c.specs.Exports.{Closes, PollsAt, SubmitsAt};
 ghost use Rattle.nvm_c.specs.Identify.{IdentifiesAt};
 ghost use Rattle.nvm_c.specs.ReadNow.{ReadsAt};
 
 use crate::code::Code;
-use crate::data_piece::DataPiece;
 use crate::handle::Handle;
 use crate::identify::report;
 use crate::reading::ReadStatus;
@@ -45,7 +43,7 @@ pub(crate) fn submitted(
 }
 
 /// As `zk_submit_pair`, with the code in place of its number.
-pub(crate) fn submitted_pair(
+pub(crate) fn submitted_in_pieces(
     alloc: Global,
     port: &mut Handle,
     entries: &[u8],
@@ -59,26 +57,7 @@ pub(crate) fn submitted_pair(
     let Some(mut engine) = port.take(alloc) else {
         return Code::NotOpen;
     };
-    let code = engine.submit_pair_apart(alloc, entries, compared, written, completions);
-    port.put(engine);
-    code
-}
-
-/// As `zk_submit_pieces`, with the code in place of its number.
-pub(crate) fn submitted_in_pieces(
-    alloc: Global,
-    port: &mut Handle,
-    entries: &[u8],
-    pieces: &mut [DataPiece<'_>],
-    completions: &mut [u8],
-) -> Code
-    ensures { SubmitsAt result port.old.held.engine port.new.held.engine entries.now
-        (record { bytes = bytes_of pieces.old; posted = completions.old }) (record { bytes = bytes_of pieces.new; posted = completions.new }) }
-{
-    let Some(mut engine) = port.take(alloc) else {
-        return Code::NotOpen;
-    };
-    let code = engine.submit_pieces(alloc, entries, pieces, completions);
+    let code = engine.submit_pieces(alloc, entries, compared, written, completions);
     port.put(engine);
     code
 }
@@ -93,24 +72,10 @@ pub(crate) fn polled(
     ensures { PollsAt result port.old.held.engine port.new.held.engine
         (record { bytes = data.old; posted = completions.old }) (record { bytes = data.new; posted = completions.new }) }
 {
-    let mut pieces = [DataPiece { bytes: data }];
-    polled_in_pieces(alloc, port, &mut pieces, completions)
-}
-
-/// As `zk_poll_pieces`, with the code in place of its number.
-pub(crate) fn polled_in_pieces(
-    alloc: Global,
-    port: &mut Handle,
-    pieces: &mut [DataPiece<'_>],
-    completions: &mut [u8],
-) -> Code
-    ensures { PollsAt result port.old.held.engine port.new.held.engine
-        (record { bytes = bytes_of pieces.old; posted = completions.old }) (record { bytes = bytes_of pieces.new; posted = completions.new }) }
-{
     let Some(mut engine) = port.take(alloc) else {
         return Code::NotOpen;
     };
-    let code = engine.poll(alloc, pieces, completions);
+    let code = engine.poll(alloc, data, completions);
     port.put(engine);
     code
 }

@@ -1,11 +1,9 @@
 //! What C is told of a job that was done.
 ghost use Rattle.std.specs.Prelude.{◌≡◌, ◌≤◌, length};
 ghost use Rattle.nvm_record.specs.Completion.{posted};
-ghost use Rattle.nvm_c.specs.DataPieces.{bytes_of};
 ghost use Rattle.nvm_c.specs.Told as spec;
 ghost use Rattle.nvm_c.specs.Told.{AreTold, FitEntries, overwritten, posted_length};
 
-use crate::data_piece::{DataPiece, overwrite_pieces};
 use nvm_plan::{Body, Completions, Job};
 use nvm_record::{Completion, completion_bytes};
 
@@ -19,18 +17,18 @@ pub(crate) fn entries_length(job: &Job) -> usize
     }
 }
 
-/// Writes the completions' entries into `posted`, and what a Read read into the front of the pieces.
+/// Writes the completions' entries into `posted`, and what a Read read into the front of `data`.
 #[inline(always)]
-pub(crate) fn tell(completions: &Completions, pieces: &mut [DataPiece<'_>], posted: &mut [u8])
+pub(crate) fn tell(completions: &Completions, data: &mut [u8], posted: &mut [u8])
     requires fit { FitEntries completions.now }
     requires room { length posted.old ≡ spec.told_length completions.now }
-    ensures { AreTold completions.now (bytes_of pieces.old) (bytes_of pieces.new) posted.old posted.new }
+    ensures { AreTold completions.now data.old data.new posted.old posted.new }
 {
     match completions {
         Completions::One(completion) => {
             post(completion, posted);
             if let Some(read) = &completion.payload {
-                overwrite_pieces(pieces, read.as_slice());
+                overwrite(data, read.as_slice());
             }
         }
         Completions::Two(first, second) => {

@@ -7,8 +7,7 @@ use Rattle.nvm_c.specs.Engines.{seen_by}
 use Rattle.nvm_c.specs.Logs.{HasDrawn, kept_by, with_kept}
 use Rattle.nvm_c.specs.Told.{posted_length}
 use Rattle.nvm_c.specs.declared.code.Code.TheVariants.{Done}
-use Rattle.nvm_c.proofs.AtOnce.{two_read_nothing}
-use Rattle.nvm_c.proofs.Steps.{if_held, of_held, or_else, progress_behind, submits_of}
+use Rattle.nvm_c.proofs.Steps.{if_held, of_held, progress_behind, submits_of}
 use Rattle.nvm_c.proofs.engine.Engine.begin.Goals as goal
 
 pub tell-requires-clause-fit : goal.tell-requires-clause-fit
@@ -42,7 +41,7 @@ returns-in-Done-clause-submits c = if_held _ c.in-Some.is (λ entries sent eithe
       number = c.in-Ok.number;
       log = kept_by c.draw.new.log;
       drawn = c.in-Ok.ensures.drawn;
-      progress = progress_behind _ _ _ _ _ _ _ _ sent _ _ _ _ (λ told does. or_else (λ two. two_read_nothing told.completions (c.told_statuses_fit_their_entries.ensures.each _ _ _ _ _ _ _ does ∙ two)) either) Done (record {
+      progress = progress_behind _ _ _ _ _ _ _ _ sent _ _ _ _ (λ told does. c.told_statuses_fit_their_entries.ensures.each _ _ _ _ _ _ _ does) either Done (record {
         told = c.in-Done.done;
         does = subst (λ (s : SpaceName). DoesJob s.namespace s.lists c.in-Ok.number c.in-Some.job views views c.in-Done.done) c.deref.ensures (c.in-Done.ensures views);
         buffers = c.tell.ensures;
@@ -62,7 +61,7 @@ returns-in-Pending-clause-submits c = if_held _ c.in-Some.is (λ entries sent ei
       number = c.in-Ok.number;
       log = kept_by c.draw.new.log;
       drawn = subst (λ (n : ℕ). HasDrawn e.number n (kept_by e.log) (kept_by c.draw.new.log) c.in-Ok.number) (sym c.go_on.ensures.number) c.in-Ok.ensures.drawn;
-      progress = progress_behind _ _ _ _ _ _ _ _ sent _ _ _ _ (λ told does. or_else (λ two. two_read_nothing told.completions (c.told_statuses_fit_their_entries.ensures.each _ _ _ _ _ _ _ does ∙ two)) either) c.go_on.result
+      progress = progress_behind _ _ _ _ _ _ _ _ sent _ _ _ _ (λ told does. c.told_statuses_fit_their_entries.ensures.each _ _ _ _ _ _ _ does) either c.go_on.result
           (of_held _ c.in-Some.is c.go_on.ensures.progress views
           (subst (λ (s : SpaceName). IsUnderWay s.namespace s.lists c.in-Some.job c.in-Pending.under_way views views) c.deref.ensures (c.in-Pending.ensures views).1));
       space = c.go_on.ensures.space;
