@@ -7,9 +7,10 @@
  *
  * Inside, a large namespace has up to 4,096 regions of whole atomic units, so windows lie around the first LBAs of regions, and at both ends. What
  * lies beside a window must stay zeroes. With --times it tells on standard error how long it takes to open and close, and how much is resident then.
- * With --memory it only writes 100 MB, in commands of N blocks that are spread over 2^31 blocks, and prints the resident memory; with --count it only
+ * With --memory it only writes 100 MB, in commands of N blocks that are spread over 2^31 blocks, zeroes them, and prints the resident memory; with --count it only
  * does so many commands of N blocks at 1,000 LBAs, for a profiler, within units of 8 that were written as a whole before, or, with --alone, just so many
  * blocks of them. NSZE is at least 16,000 then. It ends with 1 at the first wrong answer, and says what is wrong with it. */
+#include <malloc.h>
 #include <sched.h>
 #include <stdarg.h>
 #include <stdbool.h>
@@ -679,8 +680,11 @@ static void show_memory(uint32_t blocks)
         struct answer it = submit(ports, entry, sizeof entry, NULL, 0, ZK_COMPLETION_BYTES);
         MUST(it.code == ZK_DONE && status_of(it.told) == 0);
     }
+    /* Only what lies behind the last block in use goes back by itself. */
+    malloc_trim(0);
     long zeroed = resident_bytes();
     MUST(zk_close(ports) == ZK_DONE);
+    malloc_trim(0);
     printf("2^31 blocks of 512 bytes, %llu Writes of %u blocks: %llu bytes written, resident %ld bytes before and %ld after, "
            "%ld once they are zeroed, %ld closed\n",
            (unsigned long long)count, blocks, (unsigned long long)count * blocks * 512, before, after, zeroed, resident_bytes());
